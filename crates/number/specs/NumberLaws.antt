@@ -1,0 +1,128 @@
+-- Laws of one number: how many bytes it is written in, and that reading and writing undo each other. Assumes nothing.
+use mathlib.Core.Path.{_≡_, refl, sym, _∙_, ap}
+use mathlib.Core.List.{List, [], _∷_, _++_}
+use Prim.Native.Nat.{ℕ, suc, _+_, _*_, _/_, _%_, _≤_, _<_}
+use native.Mathlib.Numerals.{add-one}
+use native.Mathlib.Omega.{arith}
+use native.Mathlib.Decide.{decLt, ℕ-discrete}
+use borrow.Author.Tests.{lt-ltb, le-ltb, le-leb, lt-leb, eq-eqb, ne-eqb}
+use lib.ListN.{length, getD, drop}
+use lib.Seq.{drop-cons}
+use Rattle.number.specs.Number.{written, numberAt, first, second, third, value}
+use Rattle.number.specs.declared.Cursor.{Cursor}
+use Rattle.number.specs.declared.Number.the-variants.{Refused}
+use Rattle.number.specs.declared.Refusal.{Refusal}
+
+-- the byte at an offset stands first of those from there on
+pub byte-at : (bytes : List ℕ) (i : ℕ) → i < length bytes → drop i bytes ≡ getD bytes i 0 ∷ drop (i + 1) bytes
+byte-at bytes i h = rw (add-one, drop-cons bytes i 0)
+
+-- ---- the bytes of a number
+pub written-one : (n : ℕ) → n < 128 → written n ≡ n ∷ []
+unfolding written
+written-one n h = rw (lt-ltb n 128 h)
+
+pub written-two : (n : ℕ) → 128 ≤ n → n < 16384 → written n ≡ (n % 128 + 128) ∷ (n / 128) ∷ []
+unfolding written
+written-two n g h = rw (le-ltb n 128 g, lt-ltb (n / 128) 128 (omega arith))
+
+pub written-three : (n : ℕ) → 16384 ≤ n → n < 65536 → written n ≡ (n % 128 + 128) ∷ (n / 128 % 128 + 128) ∷ (n / 128 / 128) ∷ []
+unfolding written
+written-three n g h = rw (le-ltb n 128 (omega arith), le-ltb (n / 128) 128 (omega arith), lt-ltb (n / 128 / 128) 128 (omega arith))
+
+pub written-some : (n : ℕ) → 1 ≤ length (written n)
+unfolding written
+written-some n = go (decLt n 128)
+  where
+    go : Dec (n < 128) → 1 ≤ length (written n)
+    go (yes h) = rw (lt-ltb n 128 h) (omega arith)
+    go (no h) = rw (le-ltb n 128 (omega arith)) (omega arith)
+
+-- ---- what is written is read
+pub first-written : (at n : ℕ) (rest : List ℕ) → n < 65536 → first at (written n ++ rest) ≡ value n (at + length (written n))
+unfolding first second third
+first-written at n rest h = go (decLt n 128) (decLt n 16384)
+  where
+    go : Dec (n < 128) → Dec (n < 16384) → first at (written n ++ rest) ≡ value n (at + length (written n))
+    go (yes s) d = rw (written-one n s, lt-ltb n 128 s)
+    go (no s) (yes t) =
+        let e : (n % 128 + 128) % 128 + 128 * (n / 128) ≡ n = omega arith in
+        rw (written-two n (omega arith) t, le-ltb (n % 128 + 128) 128 (omega arith), ne-eqb (n / 128) 0 (omega arith), lt-ltb (n / 128) 128 (omega arith), e)
+    go (no s) (no t) =
+        let e : (n % 128 + 128) % 128 + 128 * ((n / 128 % 128 + 128) % 128) + 16384 * (n / 128 / 128) ≡ n = omega arith in
+        rw (written-three n (omega arith) h, le-ltb (n % 128 + 128) 128 (omega arith), ne-eqb (n / 128 % 128 + 128) 0 (omega arith), le-ltb (n / 128 % 128 + 128) 128 (omega arith), ne-eqb (n / 128 / 128) 0 (omega arith), lt-leb 128 (n / 128 / 128) (omega arith), e, le-ltb 65535 n (omega arith))
+
+-- ---- what is read is written
+-- the elements of a slice of bytes
+abbrev pub Bytes : List ℕ → Type 0
+Bytes s = (i : ℕ) → getD s i 0 < 256
+
+-- n stands at the front of s, and ends before the offset next
+pub record Stands (at : ℕ) (s : List ℕ) (n next : ℕ) : Type 0 where
+  pub rest : List ℕ
+  pub whole : s ≡ written n ++ rest
+  pub after : next ≡ at + length (written n)
+  pub small : n < 65536
+
+pub value-is : (n k m next : ℕ) → value n k ≡ value m next → (n ≡ m) × (k ≡ next)
+value-is n k m next e =
+    let c : _≡_ {A = Cursor} (record { at = k }) (record { at = next }) = cc in
+    (cc, ap (λ (r : Cursor). r .at) c)
+
+pub refused-not-value : (r : Refusal) (m next : ℕ) → Refused r ≡ value m next → ⊥
+refused-not-value r m next e = let z : _≡_ {A = ℕ} 0 1 = cc in omega arith
+
+-- n is read, and its bytes are bs
+stands : (at : ℕ) (bs rest : List ℕ) (n k m next : ℕ) → value n k ≡ value m next → written n ≡ bs → k ≡ at + length bs → n < 65536
+    → Stands at (bs ++ rest) m next
+stands at bs rest n k m next e w f h =
+    let (i, j) = value-is n k m next e in
+    record { rest = rest; whole = rw (← i, w); after = rw (← i, w, ← j) f; small = rw (← i) h }
+
+third-stands : (at a b : ℕ) (s : List ℕ) (m next : ℕ) → 128 ≤ a → a < 256 → 128 ≤ b → b < 256 → third at a b s ≡ value m next → Stands at (a ∷ b ∷ s) m next
+unfolding third
+third-stands at a b [] m next ha la hb lb e = absurd (refused-not-value _ m next e)
+third-stands at a b (c ∷ s) m next ha la hb lb e = go (ℕ-discrete c 0) (decLt c 128) (decLt 65535 (a % 128 + 128 * (b % 128) + 16384 * c))
+  where
+    go : Dec (c ≡ 0) → Dec (c < 128) → Dec (65535 < a % 128 + 128 * (b % 128) + 16384 * c) → Stands at (a ∷ b ∷ c ∷ s) m next
+    go (yes z) d f = absurd (refused-not-value _ m next (rw (eq-eqb c 0 z) at e))
+    go (no z) (no d) f = absurd (refused-not-value _ m next (rw (ne-eqb c 0 z, le-leb 128 c (omega arith)) at e))
+    go (no z) (yes d) (yes f) = absurd (refused-not-value _ m next (rw (ne-eqb c 0 z, lt-leb 128 c d, lt-ltb 65535 _ f) at e))
+    go (no z) (yes d) (no f) =
+        let n : ℕ = a % 128 + 128 * (b % 128) + 16384 * c in
+        let i : n % 128 + 128 ≡ a = omega arith in
+        let h : n / 128 ≡ b % 128 + 128 * c = omega arith in
+        let j : n / 128 % 128 + 128 ≡ b = rw h (omega arith) in
+        let k : n / 128 / 128 ≡ c = rw h (omega arith) in
+        stands at (a ∷ b ∷ c ∷ []) s n (at + 3) m next
+        (rw (ne-eqb c 0 z, lt-leb 128 c d, le-ltb 65535 n (omega arith)) at e)
+        (rw (written-three n (omega arith) (omega arith), i, j, k))
+        refl
+        (omega arith)
+
+second-stands : (at a : ℕ) (s : List ℕ) (m next : ℕ) → 128 ≤ a → a < 256 → Bytes s → second at a s ≡ value m next → Stands at (a ∷ s) m next
+unfolding second
+second-stands at a [] m next ha la bytes e = absurd (refused-not-value _ m next e)
+second-stands at a (b ∷ s) m next ha la bytes e = go (ℕ-discrete b 0) (decLt b 128)
+  where
+    go : Dec (b ≡ 0) → Dec (b < 128) → Stands at (a ∷ b ∷ s) m next
+    go (yes z) d = absurd (refused-not-value _ m next (rw (eq-eqb b 0 z) at e))
+    go (no z) (no d) = third-stands at a b s m next ha la (omega arith) (bytes 0) (rw (ne-eqb b 0 z, le-ltb b 128 (omega arith)) at e)
+    go (no z) (yes d) =
+        let n : ℕ = a % 128 + 128 * b in
+        let i : n % 128 + 128 ≡ a = omega arith in
+        let j : n / 128 ≡ b = omega arith in
+        stands at (a ∷ b ∷ []) s n (at + 2) m next
+        (rw (ne-eqb b 0 z, lt-ltb b 128 d) at e)
+        (rw (written-two n (omega arith) (omega arith), i, j))
+        refl
+        (omega arith)
+
+pub first-stands : (at : ℕ) (s : List ℕ) (m next : ℕ) → Bytes s → first at s ≡ value m next → Stands at s m next
+unfolding first
+first-stands at [] m next bytes e = absurd (refused-not-value _ m next e)
+first-stands at (a ∷ s) m next bytes e = go (decLt a 128)
+  where
+    go : Dec (a < 128) → Stands at (a ∷ s) m next
+    go (no d) = second-stands at a s m next (omega arith) (bytes 0) (λ i. bytes (suc i)) (rw (le-ltb a 128 (omega arith)) at e)
+    go (yes d) = stands at (a ∷ []) s a (at + 1) m next (rw (lt-ltb a 128 d) at e) (written-one a d) refl (omega arith)
