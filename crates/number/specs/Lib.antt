@@ -1,2 +1,4 @@
+pub mod Lent
+pub mod LentLaws
 pub mod Number
 pub mod NumberLaws

@@ -1,14 +1,14 @@
 -- Laws of one number: how many bytes it is written in, and that reading and writing undo each other. Assumes nothing.
 use mathlib.Core.Path.{_≡_, refl, sym, _∙_, ap}
 use mathlib.Core.List.{List, [], _∷_, _++_}
-use Prim.Native.Nat.{ℕ, suc, _+_, _*_, _/_, _%_, _≤_, _<_}
+use Prim.Native.Nat.{ℕ, zero, suc, _+_, _*_, _/_, _%_, _≤_, _<_}
 use native.Mathlib.Numerals.{add-one}
 use native.Mathlib.Omega.{arith}
 use native.Mathlib.Decide.{decLt, ℕ-discrete}
 use borrow.Author.Tests.{lt-ltb, le-ltb, le-leb, lt-leb, eq-eqb, ne-eqb}
 use lib.ListN.{length, getD, drop}
 use lib.Seq.{drop-cons}
-use Rattle.number.specs.Number.{written, numberAt, first, second, third, value}
+use Rattle.number.specs.Number.{groups, written, numberAt, first, second, third, value}
 use Rattle.number.specs.declared.Cursor.{Cursor}
 use Rattle.number.specs.declared.Number.the-variants.{Refused}
 use Rattle.number.specs.declared.Refusal.{Refusal}
@@ -37,6 +37,19 @@ written-some n = go (decLt n 128)
     go : Dec (n < 128) → 1 ≤ length (written n)
     go (yes h) = rw (lt-ltb n 128 h) (omega arith)
     go (no h) = rw (le-ltb n 128 (omega arith)) (omega arith)
+
+-- at most k groups
+groups-most : (k n : ℕ) → length (groups k n) ≤ k
+groups-most zero n = omega arith
+groups-most (suc k) n = go (decLt n 128) (groups-most k (n / 128))
+  where
+    go : Dec (n < 128) → length (groups k (n / 128)) ≤ k → length (groups (suc k) n) ≤ suc k
+    go (yes h) r = rw (lt-ltb n 128 h) (omega arith)
+    go (no h) r = rw (le-ltb n 128 (omega arith)) (omega arith)
+
+pub written-most : (n : ℕ) → length (written n) ≤ 3
+unfolding written
+written-most n = groups-most 3 n
 
 -- ---- what is written is read
 pub first-written : (at n : ℕ) (rest : List ℕ) → n < 65536 → first at (written n ++ rest) ≡ value n (at + length (written n))

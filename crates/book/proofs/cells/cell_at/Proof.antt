@@ -1,0 +1,28 @@
+-- `book::cells::cell_at` meets its contract. Assumes nothing.
+use borrow.Author.Tests.{lt-ltb, le-ltb}
+use Rattle.book.specs.Book.{cellAt}
+use borrow.Author.Needs.{needs}
+use Rattle.book.proofs.cells.cell_at.Statement.{statement}
+use Rattle.book.proofs.cells.cell_at.Tie as tie
+use Rattle.book.proofs.cells.cell_at.Reads as reads
+use Rattle.book.proofs.cells.cell_at.Lts as lts
+
+mul-t5 : tie.Need-mul-t5
+mul-t5 c = search needs
+
+shared-slice-read-t7 : tie.Need-shared-slice-read-t7
+shared-slice-read-t7 c = search needs
+
+add-t8 : tie.Need-add-t8
+add-t8 c = search needs
+
+returns : tie.Need-returns
+unfolding cellAt
+returns c = rw (lt-ltb _ _ (c .before .if1 .taken))
+
+returns-2 : tie.Need-returns-2
+unfolding cellAt
+returns-2 c = rw (le-ltb _ _ (c .if1 .left))
+
+pub cell-at-spec : {M : Type 1} → statement M
+cell-at-spec = tie.close (tie.spec mul-t5 shared-slice-read-t7 add-t8 returns returns-2)

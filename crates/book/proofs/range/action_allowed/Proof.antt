@@ -1,0 +1,69 @@
+-- `book::range::action_allowed` meets its contract: each kind of action is a case of `allowed`. Assumes nothing.
+use borrow.Author.Tests.{lt-ltb, le-ltb, le-leb, lt-leb, eq-eqb, ne-eqb}
+use native.Mathlib.Omega.{arith}
+use Rattle.book.specs.Range.{allowed}
+use borrow.Author.Needs.{needs}
+use Rattle.book.proofs.range.action_allowed.Statement.{statement}
+use Rattle.book.proofs.range.action_allowed.Tie as tie
+use Rattle.book.proofs.range.action_allowed.Reads as reads
+use Rattle.book.proofs.range.action_allowed.Lts as lts
+use Rattle.book.proofs.actions.decode.Reads as decode-reads
+
+decode-requires : tie.Need-decode-requires
+decode-requires c κs = search needs
+
+enum-told : tie.Need-enum-told
+enum-told c = search needs
+
+enum-told-2 : tie.Need-enum-told-2
+enum-told-2 c = search needs
+
+enum-known-s : tie.Need-enum-known-s
+enum-known-s c = search needs
+
+returns : tie.Need-returns
+unfolding allowed
+returns c = rw (← c .before .before .before .before .decode .ensures, c .before .before .s .given .1, eq-eqb _ _ (c .if1 .taken))
+
+cast-result : tie.Need-cast-result
+cast-result c = search needs
+
+enum-known-p : tie.Need-enum-known-p
+enum-known-p c = search needs
+
+cast-result-2 : tie.Need-cast-result-2
+cast-result-2 c = search needs
+
+returns-2 : tie.Need-returns-2
+unfolding allowed
+returns-2 c = rw (← c .before .before .decode .ensures, c .enum-told .given .1)
+
+returns-3 : tie.Need-returns-3
+unfolding allowed
+returns-3 c = rw (← c .before .before .decode .ensures, c .enum-told2 .given .1)
+
+returns-4 : tie.Need-returns-4
+unfolding allowed
+returns-4 c =
+    rw (← c .before .before .before .before .before .decode .ensures, c .before .before .before .s .given .1, ne-eqb _ _ (c .before .if1 .left))
+
+returns-5 : tie.Need-returns-5
+unfolding allowed
+returns-5 c = rw (← c .before .before .before .before .decode .ensures, c .before .before .p .given .1)
+
+pub action-allowed-spec : {M : Type 1} → statement M
+action-allowed-spec =
+    tie.close
+    (tie.spec
+    decode-requires
+    enum-told
+    enum-told-2
+    enum-known-s
+    returns
+    cast-result
+    enum-known-p
+    cast-result-2
+    returns-2
+    returns-3
+    returns-4
+    returns-5)

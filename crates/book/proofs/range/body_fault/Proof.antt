@@ -1,0 +1,24 @@
+-- `book::range::body_fault` meets its contract. Assumes nothing.
+use borrow.Author.Tests.{lt-ltb, le-ltb, le-leb, lt-leb, eq-eqb, ne-eqb}
+use native.Mathlib.Omega.{arith}
+use Rattle.book.specs.Range.{bodyFault}
+use borrow.Author.Needs.{needs}
+use Rattle.book.proofs.range.body_fault.Statement.{statement}
+use Rattle.book.proofs.range.body_fault.Tie as tie
+use Rattle.book.proofs.range.body_fault.Reads as reads
+use Rattle.book.proofs.range.body_fault.Lts as lts
+use Rattle.book.proofs.range.in_range.Reads as in-range-reads
+
+in-range-requires : tie.Need-in-range-requires
+in-range-requires c κs = search needs
+
+returns : tie.Need-returns
+unfolding bodyFault
+returns c = rw (← c .before .in-range .ensures, c .if1 .taken)
+
+returns-2 : tie.Need-returns-2
+unfolding bodyFault
+returns-2 c = rw (← c .before .in-range .ensures, c .if1 .left)
+
+pub body-fault-spec : {M : Type 1} → statement M
+body-fault-spec = tie.close (tie.spec in-range-requires returns returns-2)

@@ -1,0 +1,31 @@
+-- `book::range::body_length` meets its contract. Assumes nothing.
+use borrow.Author.Tests.{lt-ltb, le-ltb, le-leb, lt-leb, eq-eqb, ne-eqb}
+use native.Mathlib.Omega.{arith}
+use Rattle.book.specs.RangeLaws.{actions-few, gotos-few}
+use borrow.Author.Needs.{needs}
+use Rattle.book.proofs.range.body_length.Statement.{statement}
+use Rattle.book.proofs.range.body_length.Tie as tie
+use Rattle.book.proofs.range.body_length.Reads as reads
+use Rattle.book.proofs.range.body_length.Lts as lts
+
+mul-result : tie.Need-mul-result
+mul-result c = search needs
+
+mul-result-2 : tie.Need-mul-result-2
+mul-result-2 c = omega (arith, actions-few _ (c .before .before .pre))
+
+add-result : tie.Need-add-result
+add-result c = omega (arith, actions-few _ (c .before .before .pre))
+
+mul-result-3 : tie.Need-mul-result-3
+mul-result-3 c = omega (arith, gotos-few _ (c .before .before .before .pre))
+
+add-result-2 : tie.Need-add-result-2
+add-result-2 c = omega (arith, actions-few _ (c .before .before .before .pre), gotos-few _ (c .before .before .before .pre))
+
+returns : tie.Need-returns
+returns c = search needs
+
+pub body-length-spec : {M : Type 1} → statement M
+body-length-spec =
+    tie.close (tie.spec mul-result mul-result-2 add-result mul-result-3 add-result-2 returns)

@@ -1,0 +1,56 @@
+-- `book::range::in_range` meets its contract: each test picks a case of `fits`. Assumes nothing.
+use borrow.Author.Tests.{lt-ltb, le-ltb, le-leb, lt-leb, eq-eqb, ne-eqb}
+use native.Mathlib.Omega.{arith}
+use Rattle.book.specs.Range.{fits}
+use Rattle.book.specs.RangeLaws.{actions-few, gotos-few}
+use borrow.Author.Needs.{needs}
+use Rattle.book.proofs.range.in_range.Statement.{statement}
+use Rattle.book.proofs.range.in_range.Tie as tie
+use Rattle.book.proofs.range.in_range.Reads as reads
+use Rattle.book.proofs.range.in_range.Lts as lts
+use Rattle.book.proofs.range.action_allowed.Reads as action-allowed-reads
+
+mul-actions : tie.Need-mul-actions
+mul-actions c = search needs
+
+returns : tie.Need-returns
+unfolding fits
+returns c = rw (lt-ltb _ _ (c .before .before .if1 .taken), eq-eqb _ _ (c .before .if2 .taken))
+
+returns-2 : tie.Need-returns-2
+unfolding fits
+returns-2 c = rw (lt-ltb _ _ (c .before .if1 .taken), ne-eqb _ _ (c .if2 .left))
+
+mul-if3 : tie.Need-mul-if3
+mul-if3 c = omega (arith, actions-few _ (c .before .before .before .pre))
+
+add-if3 : tie.Need-add-if3
+add-if3 c = omega (arith, actions-few _ (c .before .before .before .pre))
+
+rem-action-allowed : tie.Need-rem-action-allowed
+rem-action-allowed c = search needs
+
+action-allowed-requires : tie.Need-action-allowed-requires
+action-allowed-requires c κs = search needs
+
+returns-3 : tie.Need-returns-3
+unfolding fits
+returns-3 c = rw (le-ltb _ _ (c .before .before .before .if1 .left), lt-ltb _ _ (c .before .if3 .taken)) (c .action-allowed .ensures)
+
+returns-4 : tie.Need-returns-4
+unfolding fits
+returns-4 c = rw (le-ltb _ _ (c .before .before .before .if1 .left), le-ltb _ _ (c .before .if3 .left))
+
+pub in-range-spec : {M : Type 1} → statement M
+in-range-spec =
+    tie.close
+    (tie.spec
+    mul-actions
+    returns
+    returns-2
+    mul-if3
+    add-if3
+    rem-action-allowed
+    action-allowed-requires
+    returns-3
+    returns-4)

@@ -1,0 +1,98 @@
+-- The table book: what reading it gives, out of bytes and out of cells, and what each call answers and leaves. Assumes nothing.
+use mathlib.Core.Bool.{cond}
+use mathlib.Core.List.{List, [], _∷_, _++_}
+use Prim.Native.Nat.{ℕ, zero, suc, _+_}
+use lib.Dec.{ltb, leb, eqb}
+use lib.ListN.{length, getD}
+use Rattle.number.specs.Lent.{over}
+use Rattle.number.specs.Number.{numberAt, written, value, refusal}
+use Rattle.number.specs.declared.Number.{Number}
+use Rattle.number.specs.declared.Number.the-variants.{Value, Refused}
+use Rattle.number.specs.declared.Refusal.{Refusal}
+use Rattle.book.specs.Range.{headFault, bodyFault, bodyLength}
+use Rattle.book.specs.Tables.{sizesOf}
+use Rattle.book.specs.declared.Checked.{Checked}
+use Rattle.book.specs.declared.Checked.the-variants.{Valid, Refused as Faulty}
+use Rattle.book.specs.declared.Written.{Written}
+use Rattle.book.specs.declared.Written.the-variants.{Count, Refused as Unwritten}
+
+-- 'In memory the book is its numbers in order, one 16-bit cell each': what stands at an index of the cells, with the next index,
+-- or '1 it stops before a due number is complete'
+unfoldable pub cellAt : List ℕ → ℕ → Number
+cellAt cells i = cond (ltb i (length cells)) (value (getD cells i 0) (i + 1)) (refusal 1 i)
+
+-- 'A book is a row of numbers': those read, with the place after them, or the first refusal
+pub data Row : Type 0 where
+  read : List ℕ → ℕ → Row
+  refused : Refusal → Row
+
+-- the row with v in front
+abbrev pub before : ℕ → Row → Row
+before v (read vs at) = read (v ∷ vs) at
+before v (refused r) = refused r
+
+-- 'each number by 1, 2, its range': what stands at a place, refused there too where it has a fault
+abbrev pub admitted : (ℕ → ℕ) → ℕ → Number → Number
+admitted fault at (Refused r) = Refused r
+admitted fault at (Value v next) = cond (eqb (fault v) 0) (Value v next) (refusal (fault v) at)
+
+-- a number, and the row that goes on after it
+abbrev pub followed : Number → (ℕ → Row) → Row
+followed (Refused r) rest = refused r
+followed (Value v next) rest = before v (rest (next .at))
+
+-- k numbers from a place of the source on, the first of which is number i of its part, each with its fault there
+unfoldable pub row : (ℕ → Number) → (ℕ → ℕ → ℕ) → ℕ → ℕ → ℕ → Row
+row source fault zero i at = read [] at
+row source fault (suc k) i at = followed (admitted (fault i) at (source at)) (λ next. row source fault k (suc i) next)
+
+-- 'Nothing follows the last goto': the whole book, where the row ends at the end, or '6 something follows the last number'
+abbrev pub whole : ℕ → List ℕ → Row → Row
+whole end head (refused r) = refused r
+whole end head (read body at) = cond (ltb at end) (refused (record { number = 6; place = at })) (read (head ++ body) at)
+
+-- the five numbers of the head say how many follow
+abbrev pub onward : (ℕ → Number) → ℕ → Row → Row
+onward source end (refused r) = refused r
+onward source end (read head at) = whole end head (row source (bodyFault (sizesOf head)) (bodyLength (sizesOf head)) 0 at)
+
+-- the book that a source holds up to its end: its cells, or the refusal, 'book from the front'
+unfoldable pub bookIn : (ℕ → Number) → ℕ → Row
+bookIn source end = onward source end (row source headFault 5 0 0)
+
+-- the book in bytes, and in cells: 'Every public call that takes cells checks them by the same rules'
+unfoldable pub ofBytes : List ℕ → Row
+ofBytes bytes = bookIn (numberAt bytes) (length bytes)
+
+unfoldable pub ofCells : List ℕ → Row
+ofCells cells = bookIn (cellAt cells) (length cells)
+
+-- the bytes of a row of numbers
+abbrev pub bytesOf : List ℕ → List ℕ
+bytesOf [] = []
+bytesOf (n ∷ cells) = written n ++ bytesOf cells
+
+-- what `check` answers
+abbrev pub checked : Row → Checked
+checked (read cells at) = Valid (sizesOf cells)
+checked (refused r) = Faulty r
+
+-- a result at the front of lent memory, the rest of which keeps its values. 'A writer and the cell reader need at least the length of
+-- their result': '12 an output too short', whose place is 0
+abbrev pub put : List ℕ → List ℕ → Written × List ℕ
+put out lent =
+    cond (leb (length out) (length lent)) (Count (length out), over out lent)
+    (Unwritten (record { number = 12; place = 0 }), lent)
+
+-- a refusal 'leaves all lent memory as it found it'
+abbrev pub delivered : (List ℕ → List ℕ) → Row → List ℕ → Written × List ℕ
+delivered f (read cells at) lent = put (f cells) lent
+delivered f (refused r) lent = (Unwritten r, lent)
+
+-- what `read` answers and leaves in the lent cells
+unfoldable pub reading : List ℕ → List ℕ → Written × List ℕ
+reading bytes cells = delivered (λ c. c) (ofBytes bytes) cells
+
+-- what `write` answers and leaves in the lent bytes
+unfoldable pub writing : List ℕ → List ℕ → Written × List ℕ
+writing cells bytes = delivered bytesOf (ofCells cells) bytes

@@ -1,0 +1,10 @@
+pub mod Action
+pub mod ActionLaws
+pub mod Book
+pub mod BookLaws
+pub mod BytesLaws
+pub mod IndexLaws
+pub mod Range
+pub mod RangeLaws
+pub mod RowLaws
+pub mod Tables

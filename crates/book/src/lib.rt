@@ -1,0 +1,38 @@
+// The table book: read out of bytes, checked, and written.
+mod actions;
+mod bytes;
+mod cells;
+mod range;
+
+pub use actions::decode;
+pub use bytes::read;
+pub use cells::check;
+pub use cells::write;
+use number::Refusal;
+
+// The kinds of action that a cell holds, a shift with its state and a reduction with its production.
+pub enum Action {
+    Error,
+    Accept,
+    Shift(u16),
+    Reduce(u16),
+}
+
+// How many terminals, nonterminals, states and productions a book has.
+pub struct Sizes {
+    pub t: usize,
+    pub n: usize,
+    pub s: usize,
+    pub p: usize,
+}
+
+pub enum Checked {
+    Valid(Sizes),
+    Refused(Refusal),
+}
+
+// How many cells or bytes were written.
+pub enum Written {
+    Count(usize),
+    Refused(Refusal),
+}
