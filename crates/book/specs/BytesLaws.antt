@@ -67,7 +67,7 @@ pub bytes-fit : (cells : List ℕ) (i : ℕ) → i < length cells → length (by
 bytes-fit cells i h =
     let whole = ap (λ (l : List ℕ). length (bytesOf l)) (take-append-drop (i + 1) cells) in
     let split : length (bytesOf (take (i + 1) cells ++ drop (i + 1) cells)) ≡ length (bytesOf (take (i + 1) cells)) + length (bytesOf (drop (i + 1) cells)) =
-      rw (bytes-append, length-append) in
+    rw (bytes-append, length-append) in
     omega (arith, bytes-count cells i h)
 
 -- 'It takes one to three bytes'

@@ -94,8 +94,8 @@ module _ {source : ℕ → Number} {fault : ℕ → ℕ → ℕ} {n start : ℕ}
       let more : take (i + 1) (set kept i v) ≡ take i kept ++ (v ∷ []) = rw (add-one, take-suc-set kept i v l) in
       record {
         left =
-          t .left ∙ ap (prefix (take i kept)) (row-more source fault n i at v next h e) ∙ prefix-before (take i kept) v rest
-          ∙ ap (λ (vs : List ℕ). prefix vs rest) (sym more);
+            t .left ∙ ap (prefix (take i kept)) (row-more source fault n i at v next h e) ∙ prefix-before (take i kept) v rest
+            ∙ ap (λ (vs : List ℕ). prefix vs rest) (sym more);
       }
 
   pub kept-stop : {kept : List ℕ} {i at : ℕ} {r : Refusal} → Kept source fault n start kept i at → i < n
@@ -190,3 +190,7 @@ values-row source fault (suc k) m i at vs next e =
     rw (suc-add, f .found)
     (ap (λ (l : List ℕ). f .v ∷ l) (values-row source fault k m (suc i) (f .cursor .at) (f .rest) next (f .onward))
     ∙ ap (λ (l : List ℕ). l ++ values source m next) (sym (f .split)))
+
+pub values-all : (source : ℕ → Number) (fault : ℕ → ℕ → ℕ) (k i at : ℕ) (vs : List ℕ) (next : ℕ) → row source fault k i at ≡ read vs next → values source k at ≡ vs
+unfolding values
+values-all source fault k i at vs next e = rw (add-zero, append-nil) at (values-row source fault k 0 i at vs next e)

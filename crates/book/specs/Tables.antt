@@ -10,7 +10,7 @@ use Rattle.book.specs.declared.Action.the-variants.{Error}
 use Rattle.book.specs.declared.Sizes.{Sizes}
 
 -- 'T terminals, N nonterminals, S states, P productions' stand in cells 1 to 4
-abbrev pub sizesOf : List ℕ → Sizes
+unfoldable pub sizesOf : List ℕ → Sizes
 sizesOf cells = record { t = getD cells 1 0; n = getD cells 2 0; s = getD cells 3 0; p = getD cells 4 0 }
 
 -- the action of a state under a terminal; the goto of a state under a nonterminal, 0 for none, else the state + 1;

@@ -1,7 +1,6 @@
 // An action cell, decoded.
 ghost use mathlib.Core.Path.{_≡_};
 ghost use Rattle.book.specs.Action.{actionOf};
-
 use crate::Action;
 
 pub fn decode(cell: u16) -> Action

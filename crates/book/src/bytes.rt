@@ -8,7 +8,6 @@ ghost use Rattle.book.specs.Range.{headFault, bodyFault, bodyLength, Sma
 ghost use Rattle.book.specs.Book.{row, ofBytes, checked, reading};
 ghost use Rattle.book.specs.RowLaws.{ends, values};
 ghost use Rattle.book.specs.BookLaws.{Headed};
-
 use crate::Checked;
 use crate::Sizes;
 use crate::Written;

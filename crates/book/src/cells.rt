@@ -6,7 +6,6 @@ ghost use Rattle.number.specs.Lent.{over};
 ghost use Rattle.book.specs.Range.{headFault, bodyFault, bodyLength, Small};
 ghost use Rattle.book.specs.Book.{cellAt, row, ofCells, checked, bytesOf, writing};
 ghost use Rattle.book.specs.RowLaws.{ends};
-
 use crate::Checked;
 use crate::Sizes;
 use crate::Written;

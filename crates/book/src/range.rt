@@ -10,15 +10,15 @@ ghost use Rattle.book.specs.Book.{admitted};
 ghost use Rattle.book.specs.BookLaws.{closing};
 ghost use Rattle.book.specs.Tables.{sizesOf};
 ghost use Rattle.book.specs.Range.{headFault, headNumber, bodyFault, bodyLength, allowed, fits, Small};
-
 use crate::Action;
-use crate::Sizes;
 use crate::Checked;
+use crate::Sizes;
 use crate::actions::decode;
 use number::Number;
 use number::Refusal;
 
 const LOWEST: [u16; 5] = [1, 1, 0, 1, 0];
+
 const HIGHEST: [u16; 5] = [1, 32, 32, 128, 128];
 
 // The refusal of a number i of the head that is out of range.

@@ -64,10 +64,7 @@ fn from_second(bytes: &[u8], at: usize, a: u8) -> Number
         return refused(2, at);
     }
     if b < 128 {
-        return Number::Value(
-            (a % 128) as u16 + 128 * (b as u16),
-            Cursor { at: at + 2 },
-        );
+        return Number::Value((a % 128) as u16 + 128 * (b as u16), Cursor { at: at + 2 });
     }
     from_third(bytes, at, a, b)
 }

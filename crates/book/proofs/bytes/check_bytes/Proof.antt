@@ -1,3 +1,9 @@
+-- `book::bytes::check_bytes` meets its contract: the head, the numbers after it, and the end. Assumes nothing.
+use mathlib.Core.Path.{sym, _∙_, ap}
+use native.Mathlib.Omega.{arith}
+use Rattle.book.specs.BookLaws.{head-small, checked-stop, checked-on}
+use Rattle.book.specs.RowLaws.{row-length}
+use Rattle.book.specs.Book.{ofBytes}
 use borrow.Author.Needs.{needs}
 use Rattle.book.proofs.bytes.check_bytes.Statement.{statement}
 use Rattle.book.proofs.bytes.check_bytes.Tie as tie
@@ -8,41 +14,34 @@ use Rattle.book.proofs.bytes.head_row.Reads as head-row-reads
 use Rattle.book.proofs.range.close.Reads as close-reads
 use Rattle.book.proofs.range.sizes.Reads as sizes-reads
 
--- src/bytes.rt:66:11
 head-row-requires : tie.Need-head-row-requires
 head-row-requires c κs = search needs
 
--- src/bytes.rt:67:25
 enum-known-r : tie.Need-enum-known-r
 enum-known-r c = search needs
 
--- src/bytes.rt:68:26
 enum-known-next : tie.Need-enum-known-next
 enum-known-next c = search needs
 
--- src/bytes.rt:69:27
 slice-aggregate-sizes : tie.Need-slice-aggregate-sizes
-slice-aggregate-sizes c = ?
+slice-aggregate-sizes c = sym (row-length _ _ 5 _ _ _ _ (rw (c .before .before .next .given .1) at (c .before .before .before .before .head-row .ensures)))
 
--- src/bytes.rt:69:17
 sizes-requires : tie.Need-sizes-requires
-sizes-requires c κs = ?
+sizes-requires c κs = omega (arith, row-length _ _ 5 _ _ _ _ (rw (c .before .before .next .given .1) at (c .before .before .before .before .head-row .ensures)))
 
--- src/bytes.rt:71:19
 body-row-requires : tie.Need-body-row-requires
-body-row-requires c κs = ?
+body-row-requires c κs = rw (c .sizes .ensures) (head-small _ _ _ (rw (c .before .before .before .next .given .1) at (c .before .before .before .before .before .head-row .ensures)))
 
--- src/bytes.rt:71:13
 close-requires : tie.Need-close-requires
 close-requires c κs = search needs
 
--- src/bytes.rt:62:1
 returns : tie.Need-returns
-returns c = ?
+unfolding ofBytes
+returns c = checked-stop _ _ _ (rw (c .before .r .given .1) at (c .before .before .before .head-row .ensures))
 
--- src/bytes.rt:62:1
 returns-2 : tie.Need-returns-2
-returns-2 c = ?
+unfolding ofBytes
+returns-2 c = c .close .ensures ∙ rw (c .before .body-row .ensures, c .before .before .sizes .ensures) (checked-on _ _ _ _ (rw (c .before .before .before .before .before .next .given .1) at (c .before .before .before .before .before .before .before .head-row .ensures)))
 
 pub check-bytes-spec : {M : Type 1} → statement M
 check-bytes-spec =

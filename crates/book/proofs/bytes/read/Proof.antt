@@ -1,3 +1,10 @@
+-- `book::bytes::read` meets its contract: what was checked is decoded. Assumes nothing.
+use denote.Ref.{now}
+use mathlib.Core.Path.{sym, _∙_, ap}
+use native.Mathlib.Omega.{arith}
+use Rattle.book.specs.BookLaws.{readable, deliver-stop, deliver-short, deliver-whole, checked-faulty}
+use Rattle.book.specs.Book.{ofBytes, reading}
+use Rattle.book.specs.RangeLaws.{actions-few, gotos-few}
 use borrow.Author.Needs.{needs}
 use Rattle.book.proofs.bytes.read.Statement.{statement}
 use Rattle.book.proofs.bytes.read.Tie as tie
@@ -7,45 +14,49 @@ use Rattle.book.proofs.bytes.check_bytes.Reads as check-bytes-reads
 use Rattle.book.proofs.bytes.decode_row.Reads as decode-row-reads
 use Rattle.book.proofs.range.body_length.Reads as body-length-reads
 
--- src/bytes.rt:97:11
 check-bytes-requires : tie.Need-check-bytes-requires
 check-bytes-requires c κs = search needs
 
--- src/bytes.rt:98:26
 enum-known-r : tie.Need-enum-known-r
 enum-known-r c = search needs
 
--- src/bytes.rt:99:24
 enum-known-d : tie.Need-enum-known-d
 enum-known-d c = search needs
 
--- src/bytes.rt:100:25
 body-length-requires : tie.Need-body-length-requires
-body-length-requires c κs = ?
+unfolding ofBytes
+body-length-requires c κs = (readable _ _ _ (sym (c .before .before .before .check-bytes .ensures) ∙ c .before .d .given .1)) .small
 
--- src/bytes.rt:100:21
 add-n : tie.Need-add-n
-add-n c = ?
+unfolding ofBytes
+add-n c = let v = readable _ _ _ (sym (c .before .before .before .before .check-bytes .ensures) ∙ c .before .before .d .given .1) in omega (arith, actions-few _ (v .small), gotos-few _ (v .small), c .body-length .ensures)
 
--- src/bytes.rt:102:17
 returns : tie.Need-returns
-returns c = ?
+unfolding ofBytes reading
+returns c =
+    let v = readable _ _ _ (sym (c .before .before .before .before .before .check-bytes .ensures) ∙ c .before .before .before .d .given .1) in
+    deliver-short _ _ _ (v .cells) (v .next) (v .is) (omega (arith, c .if1 .taken, v .count, c .before .body-length .ensures))
 
--- src/bytes.rt:107:13
 decode-row-requires : tie.Need-decode-row-requires
 decode-row-requires c κs = search needs
 
--- src/bytes.rt:94:1
 returns-2 : tie.Need-returns-2
-returns-2 c = ?
+unfolding reading
+returns-2 c =
+    let book = ofBytes (now (c .before .before .before .before .before .before .args .bytes)) in
+    deliver-stop (λ cells. cells) book _ _ (checked-faulty book _ (sym (c .before .before .before .check-bytes .ensures) ∙ c .before .r .given .1))
 
--- src/bytes.rt:94:1
 same-length : tie.Need-same-length
 same-length c = search needs
 
--- src/bytes.rt:94:1
 returns-3 : tie.Need-returns-3
-returns-3 c = ?
+unfolding ofBytes reading
+returns-3 c =
+    let v = readable _ _ _ (sym (c .before .before .before .before .before .before .before .before .before .check-bytes .ensures) ∙ c .before .before .before .before .before .before .before .d .given .1) in
+    deliver-whole _ _ _ (v .cells) (v .next) _ _ (v .is)
+    (omega (arith, v .count, c .before .before .before .before .before .body-length .ensures))
+    (c .before .before .before .before .if1 .left)
+    (rw (← v .numbers, ← c .before .before .before .before .before .body-length .ensures) (c .before .before .decode-row .ensures))
 
 pub read-spec : {M : Type 1} → statement M
 read-spec =

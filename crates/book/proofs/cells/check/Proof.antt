@@ -1,3 +1,8 @@
+-- `book::cells::check` meets its contract: the head, the numbers after it, and the end. Assumes nothing.
+use mathlib.Core.Path.{sym, _∙_, ap}
+use native.Mathlib.Omega.{arith}
+use Rattle.book.specs.BookLaws.{cells-head, ends-refused, checked-stop, checked-cells}
+use Rattle.book.specs.Book.{ofCells}
 use borrow.Author.Needs.{needs}
 use Rattle.book.proofs.cells.check.Statement.{statement}
 use Rattle.book.proofs.cells.check.Tie as tie
@@ -8,37 +13,30 @@ use Rattle.book.proofs.cells.head_row.Reads as head-row-reads
 use Rattle.book.proofs.range.close.Reads as close-reads
 use Rattle.book.proofs.range.sizes.Reads as sizes-reads
 
--- src/cells.rt:74:11
 head-row-requires : tie.Need-head-row-requires
 head-row-requires c κs = search needs
 
--- src/cells.rt:75:25
 enum-known-r : tie.Need-enum-known-r
 enum-known-r c = search needs
 
--- src/cells.rt:76:26
 enum-known-next : tie.Need-enum-known-next
 enum-known-next c = search needs
 
--- src/cells.rt:77:17
 sizes-requires : tie.Need-sizes-requires
-sizes-requires c κs = ?
+sizes-requires c κs = (cells-head _ _ _ (sym (c .before .before .before .head-row .ensures) ∙ c .before .next .given .1)) .long
 
--- src/cells.rt:79:19
 body-row-requires : tie.Need-body-row-requires
-body-row-requires c κs = ?
+body-row-requires c κs = rw (c .sizes .ensures) ((cells-head _ _ _ (sym (c .before .before .before .before .head-row .ensures) ∙ c .before .before .next .given .1)) .small)
 
--- src/cells.rt:79:13
 close-requires : tie.Need-close-requires
 close-requires c κs = search needs
 
--- src/cells.rt:71:1
 returns : tie.Need-returns
-returns c = ?
+unfolding ofCells
+returns c = checked-stop _ _ _ (ends-refused _ _ (sym (c .before .before .before .head-row .ensures) ∙ c .before .r .given .1))
 
--- src/cells.rt:71:1
 returns-2 : tie.Need-returns-2
-returns-2 c = ?
+returns-2 c = c .close .ensures ∙ rw (c .before .body-row .ensures, c .before .before .sizes .ensures) (checked-cells _ _ (cells-head _ _ _ (sym (c .before .before .before .before .before .before .head-row .ensures) ∙ c .before .before .before .before .next .given .1)))
 
 pub check-spec : {M : Type 1} → statement M
 check-spec =

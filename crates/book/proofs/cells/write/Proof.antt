@@ -1,3 +1,9 @@
+-- `book::cells::write` meets its contract: what was checked is encoded. Assumes nothing.
+use denote.Ref.{now}
+use mathlib.Core.Path.{sym, _∙_, ap}
+use native.Mathlib.Omega.{arith}
+use Rattle.book.specs.BookLaws.{cells-valid, deliver-stop, deliver-short, deliver-whole, checked-faulty}
+use Rattle.book.specs.Book.{ofCells, bytesOf, writing}
 use borrow.Author.Needs.{needs}
 use Rattle.book.proofs.cells.write.Statement.{statement}
 use Rattle.book.proofs.cells.write.Tie as tie
@@ -7,41 +13,37 @@ use Rattle.book.proofs.cells.byte_count.Reads as byte-count-reads
 use Rattle.book.proofs.cells.check.Reads as check-reads
 use Rattle.book.proofs.cells.encode_row.Reads as encode-row-reads
 
--- src/cells.rt:115:11
 check-requires : tie.Need-check-requires
 check-requires c κs = search needs
 
--- src/cells.rt:116:26
 enum-known-r : tie.Need-enum-known-r
 enum-known-r c = search needs
 
--- src/cells.rt:118:17
 enum-told : tie.Need-enum-told
 enum-told c = search needs
 
--- src/cells.rt:118:17
 byte-count-requires : tie.Need-byte-count-requires
 byte-count-requires c κs = search needs
 
--- src/cells.rt:120:17
 returns : tie.Need-returns
-returns c = ?
+unfolding writing
+returns c = deliver-short _ _ _ _ _ (cells-valid _ _ (sym (c .before .before .before .before .check .ensures) ∙ c .before .before .enum-told .given .1)) (omega (arith, c .if1 .taken, c .before .byte-count .ensures))
 
--- src/cells.rt:125:13
 encode-row-requires : tie.Need-encode-row-requires
 encode-row-requires c κs = search needs
 
--- src/cells.rt:112:1
 returns-2 : tie.Need-returns-2
-returns-2 c = ?
+unfolding writing
+returns-2 c =
+    let book = ofCells (now (c .before .before .before .before .before .before .args .cells)) in
+    deliver-stop bytesOf book _ _ (checked-faulty book _ (sym (c .before .before .before .check .ensures) ∙ c .before .r .given .1))
 
--- src/cells.rt:112:1
 same-length : tie.Need-same-length
 same-length c = search needs
 
--- src/cells.rt:112:1
 returns-3 : tie.Need-returns-3
-returns-3 c = ?
+unfolding writing
+returns-3 c = deliver-whole _ _ _ _ _ _ _ (cells-valid _ _ (sym (c .before .before .before .before .before .before .before .before .check .ensures) ∙ c .before .before .before .before .before .before .enum-told .given .1)) (c .before .before .before .before .before .byte-count .ensures) (c .before .before .before .before .if1 .left) (c .before .before .encode-row .ensures)
 
 pub write-spec : {M : Type 1} → statement M
 write-spec =

@@ -1,6 +1,7 @@
 -- `book::range::sizes` meets its contract. Assumes nothing.
 use native.Mathlib.Omega.{arith}
 use borrow.Author.Needs.{needs}
+use Rattle.book.specs.Tables.{sizesOf}
 use Rattle.book.proofs.range.sizes.Statement.{statement}
 use Rattle.book.proofs.range.sizes.Tie as tie
 use Rattle.book.proofs.range.sizes.Reads as reads
@@ -31,6 +32,7 @@ cast-t13 : tie.Need-cast-t13
 cast-t13 c = omega (arith, c .shared-slice-known4 .given 4)
 
 returns : tie.Need-returns
+unfolding sizesOf
 returns c = search needs
 
 pub sizes-spec : {M : Type 1} → statement M
