@@ -8,3 +8,4 @@ pub mod Range
 pub mod RangeLaws
 pub mod RowLaws
 pub mod Tables
+pub mod TablesLaws

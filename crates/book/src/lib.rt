@@ -3,12 +3,17 @@ mod actions;
 mod bytes;
 mod cells;
 mod range;
+mod tables;
 
 pub use actions::decode;
 pub use bytes::read;
 pub use cells::check;
 pub use cells::write;
 use number::Refusal;
+pub use tables::action_at;
+pub use tables::goto_at;
+pub use tables::left_side;
+pub use tables::production_length;
 
 // The kinds of action that a cell holds, a shift with its state and a reduction with its production.
 pub enum Action {

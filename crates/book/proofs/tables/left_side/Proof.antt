@@ -1,0 +1,28 @@
+-- `book::tables::left_side` meets its contract. Assumes nothing.
+use mathlib.Core.Path.{refl}
+use Rattle.book.specs.Tables.{tablesOf}
+use borrow.Author.Needs.{needs}
+use Rattle.book.proofs.tables.left_side.Statement.{statement}
+use Rattle.book.proofs.tables.left_side.Tie as tie
+use Rattle.book.proofs.tables.left_side.Reads as reads
+use Rattle.book.proofs.tables.left_side.Lts as lts
+
+mul-result : tie.Need-mul-result
+mul-result c = search needs
+
+add-result : tie.Need-add-result
+add-result c = search needs
+
+mul-result-2 : tie.Need-mul-result-2
+mul-result-2 c = search needs
+
+shared-slice-read-result : tie.Need-shared-slice-read-result
+shared-slice-read-result c = search needs
+
+returns : tie.Need-returns
+unfolding tablesOf
+returns c = refl
+
+pub left-side-spec : {M : Type 1} → statement M
+left-side-spec =
+    tie.close (tie.spec mul-result add-result mul-result-2 shared-slice-read-result returns)

@@ -1,0 +1,28 @@
+-- `book::tables::production_length` meets its contract. Assumes nothing.
+use mathlib.Core.Path.{refl}
+use Rattle.book.specs.Tables.{tablesOf}
+use borrow.Author.Needs.{needs}
+use Rattle.book.proofs.tables.production_length.Statement.{statement}
+use Rattle.book.proofs.tables.production_length.Tie as tie
+use Rattle.book.proofs.tables.production_length.Reads as reads
+use Rattle.book.proofs.tables.production_length.Lts as lts
+
+mul-result : tie.Need-mul-result
+mul-result c = search needs
+
+add-result : tie.Need-add-result
+add-result c = search needs
+
+mul-result-2 : tie.Need-mul-result-2
+mul-result-2 c = search needs
+
+shared-slice-read-result : tie.Need-shared-slice-read-result
+shared-slice-read-result c = search needs
+
+returns : tie.Need-returns
+unfolding tablesOf
+returns c = refl
+
+pub production-length-spec : {M : Type 1} → statement M
+production-length-spec =
+    tie.close (tie.spec mul-result add-result mul-result-2 shared-slice-read-result returns)

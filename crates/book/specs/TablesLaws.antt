@@ -1,0 +1,179 @@
+-- Laws of the tables: what holds of every valid list of cells, and of the tables that it holds. Assumes nothing.
+use mathlib.Core.Bool.{Bool, true, false, cond, not, _&&_, and-false, false≢true}
+use mathlib.Core.List.{List}
+use mathlib.Core.Logic.{_⊎_, inl, inr, ⊎-elim}
+use mathlib.Core.Path.{_≡_, refl, sym, _∙_, ap}
+use Prim.Native.Nat.{ℕ, suc, _+_, _*_, _-_, _%_, _≤_, _<_}
+use native.Mathlib.Decide.{decLt, ℕ-discrete}
+use native.Mathlib.Nat.{zero-add, mul-add-mod-self-right, mod-eq-of-lt}
+use native.Mathlib.Omega.{arith}
+use borrow.Author.Tests.{lt-ltb, le-ltb, eq-eqb, ne-eqb, ltb-true, leb-true, eqb-true, eqb-false}
+use lib.Dec.{ltb, leb, eqb}
+use lib.ListN.{length, getD, take, drop}
+use lib.Seq.{getD-drop, getD-take}
+use Rattle.book.specs.Action.{actionOf}
+use Rattle.book.specs.Book.{cellAt, read, row, ofCells, bookIn, checked}
+use Rattle.book.specs.BookLaws.{Whole, book-whole, cells-row, cells-valid, checked-valid, whole-small, whole-count, whole-sizes}
+use Rattle.book.specs.IndexLaws.{index-below}
+use Rattle.book.specs.Range.{allowed, fits, headFault, bodyFault, bodyLength, unless, Small}
+use Rattle.book.specs.RowLaws.{row-clean}
+use Rattle.book.specs.Tables.{Tables, sizesOf, tablesOf, actionAt, gotoAt}
+use Rattle.book.specs.declared.Action.{Action}
+use Rattle.book.specs.declared.Action.the-variants.{Error, Accept, Shift, Reduce}
+use Rattle.book.specs.declared.Checked.the-variants.{Valid}
+use Rattle.book.specs.declared.Sizes.{Sizes}
+
+-- the cells hold a book of the sizes d
+pub record Holds (d : Sizes) (cells : List ℕ) : Type 0 where
+  pub book : ofCells cells ≡ read cells (length cells)
+  pub sizes : d ≡ sizesOf cells
+  pub small : Small d
+  pub count : length cells ≡ 5 + bodyLength d
+
+-- what `check` finds valid
+pub valid-holds : (cells : List ℕ) (d : Sizes) → checked (ofCells cells) ≡ Valid d → Holds d cells
+unfolding ofCells
+valid-holds cells d e =
+    let book = cells-valid cells d e in
+    let w = book-whole (cellAt cells) (length cells) cells (length cells) book in
+    let sizes : d ≡ sizesOf cells = found (checked-valid (bookIn (cellAt cells) (length cells)) d e) book in
+    record { book = book; sizes = sizes; small = rw sizes (whole-small w); count = rw sizes (whole-count w) }
+  where
+    found : ((out : List ℕ) × (next : ℕ) × (bookIn (cellAt cells) (length cells) ≡ read out next) × (d ≡ sizesOf out))
+        → bookIn (cellAt cells) (length cells) ≡ read cells (length cells) → d ≡ sizesOf cells
+    found (out, next, is, sizes) book = let same : out ≡ cells = cc in rw same at sizes
+
+unless-held : (b : Bool) (k : ℕ) → unless b (suc k) ≡ 0 → b ≡ true
+unless-held true k e = refl
+unless-held false k e = absurd (omega arith)
+
+-- each cell after the head is in its range
+cell-fits : {d : Sizes} {cells : List ℕ} → Holds d cells → (i : ℕ) → i < bodyLength d → fits d i (getD cells (5 + i) 0) ≡ true
+unfolding ofCells bodyFault
+cell-fits {d} {cells} h i l =
+    let w = book-whole (cellAt cells) (length cells) cells (length cells) (h .book) in
+    let same : sizesOf (w .head) ≡ d = sym (whole-sizes w) ∙ sym (h .sizes) in
+    let p = cells-row cells headFault 5 0 0 (w .head) (w .at) (w .first) (omega arith) in
+    let second : row (cellAt cells) (bodyFault d) (bodyLength d) 0 5 ≡ read (w .body) (length cells) = rw (same, p .after) at (w .second) in
+    let q = cells-row cells (bodyFault d) (bodyLength d) 0 5 (w .body) (length cells) second (omega (arith, p .within)) in
+    let there : getD (w .body) i 0 ≡ getD cells (5 + i) 0 = rw (q .part, getD-take (bodyLength d) (drop 5 cells) i 0 l, getD-drop) in
+    unless-held _ 4 (rw (zero-add, there) at (row-clean (cellAt cells) (bodyFault d) (bodyLength d) 0 5 (w .body) (length cells) second i l))
+
+-- ---- the four kinds of cell
+module _ {d : Sizes} {cells : List ℕ} (h : Holds d cells) where
+  pub left-side-below : (p : ℕ) → p < d .p → getD cells (5 + 2 * p) 0 < d .n
+  unfolding fits
+  left-side-below p l =
+      let e = cell-fits h (2 * p) (omega arith) in
+      ltb-true _ _ (rw (lt-ltb (2 * p) (2 * d .p) (omega arith), eq-eqb (2 * p % 2) 0 (omega arith)) at e)
+
+  pub length-most : (p : ℕ) → p < d .p → getD cells (6 + 2 * p) 0 ≤ 32
+  unfolding fits
+  length-most p l =
+      let e = cell-fits h (1 + 2 * p) (omega arith) in
+      let i : 5 + (1 + 2 * p) ≡ 6 + 2 * p = omega arith in
+      leb-true _ _ (rw (i, lt-ltb (1 + 2 * p) (2 * d .p) (omega arith), ne-eqb ((1 + 2 * p) % 2) 0 (omega arith)) at e)
+
+  pub action-allowed : (q a : ℕ) → q < d .s → a < d .t → allowed d a (actionOf (getD cells (actionAt d q a) 0)) ≡ true
+  unfolding fits
+  action-allowed q a lq la =
+      let b = index-below (d .s) (d .t) q a lq la in
+      let e = cell-fits h (2 * d .p + (q * d .t + a)) (omega arith) in
+      let i : 5 + (2 * d .p + (q * d .t + a)) ≡ actionAt d q a = omega arith in
+      let j : 2 * d .p + (q * d .t + a) - 2 * d .p ≡ q * d .t + a = omega arith in
+      let k : (q * d .t + a) % d .t ≡ a = mul-add-mod-self-right q (d .t) a ∙ mod-eq-of-lt la in
+      rw (i, le-ltb (2 * d .p + (q * d .t + a)) (2 * d .p) (omega arith), lt-ltb (2 * d .p + (q * d .t + a)) (2 * d .p + d .s * d .t) (omega arith), j, k) at e
+
+  pub goto-most : (q X : ℕ) → q < d .s → X < d .n → getD cells (gotoAt d q X) 0 ≤ d .s
+  unfolding fits
+  goto-most q X lq lX =
+      let b = index-below (d .s) (d .n) q X lq lX in
+      let e = cell-fits h (2 * d .p + d .s * d .t + (q * d .n + X)) (omega arith) in
+      let i : 5 + (2 * d .p + d .s * d .t + (q * d .n + X)) ≡ gotoAt d q X = omega arith in
+      leb-true _ _
+      (rw (i, le-ltb (2 * d .p + d .s * d .t + (q * d .n + X)) (2 * d .p) (omega arith), le-ltb (2 * d .p + d .s * d .t + (q * d .n + X)) (2 * d .p + d .s * d .t) (omega arith)) at e)
+
+-- ---- the tables
+module _ {d : Sizes} {cells : List ℕ} (h : Holds d cells) where
+  pub act-inside : (q a : ℕ) → q < d .s → a < d .t → tablesOf cells .act q a ≡ actionOf (getD cells (actionAt d q a) 0)
+  unfolding tablesOf
+  act-inside q a lq la = rw (← h .sizes, lt-ltb q (d .s) lq, lt-ltb a (d .t) la)
+
+  pub goto-inside : (q X : ℕ) → q < d .s → X < d .n → tablesOf cells .goto q X ≡ getD cells (gotoAt d q X) 0
+  unfolding tablesOf
+  goto-inside q X lq lX = rw (← h .sizes, lt-ltb q (d .s) lq, lt-ltb X (d .n) lX)
+
+  -- outside the ranges the action is error, and the goto none
+  act-outside : (q a : ℕ) → (d .s ≤ q) ⊎ (d .t ≤ a) → tablesOf cells .act q a ≡ Error
+  unfolding tablesOf
+  act-outside q a (inl l) = rw (← h .sizes, le-ltb q (d .s) l)
+  act-outside q a (inr l) = rw (← h .sizes, le-ltb a (d .t) l, and-false)
+
+  goto-outside : (q X : ℕ) → (d .s ≤ q) ⊎ (d .n ≤ X) → tablesOf cells .goto q X ≡ 0
+  unfolding tablesOf
+  goto-outside q X (inl l) = rw (← h .sizes, le-ltb q (d .s) l)
+  goto-outside q X (inr l) = rw (← h .sizes, le-ltb X (d .n) l, and-false)
+
+  -- both digits are below their bounds, or one is not
+  split : (q a s t : ℕ) → ((q < s) × (a < t)) ⊎ ((s ≤ q) ⊎ (t ≤ a))
+  split q a s t = go (decLt q s) (decLt a t)
+    where
+      go : Dec (q < s) → Dec (a < t) → ((q < s) × (a < t)) ⊎ ((s ≤ q) ⊎ (t ≤ a))
+      go (yes lq) (yes la) = inl (lq, la)
+      go (yes lq) (no la) = inr (inr (omega arith))
+      go (no lq) la = inr (inl (omega arith))
+
+  -- an action that is not error stands inside, and is allowed there
+  pub act-some : (q a : ℕ) (x : Action) → tablesOf cells .act q a ≡ x → (x ≡ Error → ⊥) → (q < d .s) × (a < d .t) × (allowed d a x ≡ true)
+  act-some q a x e n = ⊎-elim
+      (λ l. (l .0, l .1, rw (sym (act-inside q a (l .0) (l .1)) ∙ e) at (action-allowed h q a (l .0) (l .1))))
+      (λ l. absurd (n (sym e ∙ act-outside q a l)))
+      (split q a (d .s) (d .t))
+
+  pub goto-some : (q X g : ℕ) → tablesOf cells .goto q X ≡ suc g → (q < d .s) × (X < d .n) × (g < d .s)
+  goto-some q X g e = ⊎-elim
+      (λ l. (l .0, l .1, omega (arith, goto-most h q X (l .0) (l .1), goto-inside q X (l .0) (l .1))))
+      (λ l. absurd (omega (arith, goto-outside q X l)))
+      (split q X (d .s) (d .n))
+
+-- ---- each number of the tables is in its range
+pub record InRange (B : Tables) : Type 0 where
+  pub start : 0 < B .states
+  pub end-mark : 0 < B .terminals
+  pub shifts : (q a s : ℕ) → B .act q a ≡ Shift s → (q < B .states) × (1 ≤ a) × (a < B .terminals) × (s < B .states)
+  pub reduces : (q a p : ℕ) → B .act q a ≡ Reduce p → (q < B .states) × (a < B .terminals) × (B .lhs p < B .nonterminals) × (B .len p ≤ 32)
+  pub gotos : (q X g : ℕ) → B .goto q X ≡ suc g → (q < B .states) × (X < B .nonterminals) × (g < B .states)
+
+shift-allowed : (d : Sizes) (a s : ℕ) → allowed d a (Shift s) ≡ true → (1 ≤ a) × (s < d .s)
+unfolding allowed
+shift-allowed d a s e = go (ℕ-discrete a 0)
+  where
+    go : Dec (a ≡ 0) → (1 ≤ a) × (s < d .s)
+    go (yes z) = absurd (false≢true (rw (eq-eqb a 0 z) at e))
+    go (no z) = (omega arith, ltb-true s (d .s) (rw (ne-eqb a 0 z) at e))
+
+reduce-allowed : (d : Sizes) (a p : ℕ) → allowed d a (Reduce p) ≡ true → p < d .p
+unfolding allowed
+reduce-allowed d a p e = ltb-true p (d .p) e
+
+pub in-range : {d : Sizes} {cells : List ℕ} → Holds d cells → InRange (tablesOf cells)
+unfolding tablesOf
+in-range {d} {cells} h = record {
+  start = rw (← h .sizes) (h .small .some-state);
+  end-mark = rw (← h .sizes) (h .small .some-terminal);
+  shifts = λ q a s e. rw (← h .sizes) (shifts q a s e);
+  reduces = λ q a p e. rw (← h .sizes) (reduces q a p e);
+  gotos = λ q X g e. rw (← h .sizes) (goto-some h q X g e);
+}
+  where
+    shifts : (q a s : ℕ) → tablesOf cells .act q a ≡ Shift s → (q < d .s) × (1 ≤ a) × (a < d .t) × (s < d .s)
+    shifts q a s e =
+        let (lq, la, ok) = act-some h q a (Shift s) e (λ z. absurd (let k : _≡_ {A = ℕ} 0 1 = cc in omega arith)) in
+        let (some, ls) = shift-allowed d a s ok in
+        (lq, some, la, ls)
+
+    reduces : (q a p : ℕ) → tablesOf cells .act q a ≡ Reduce p → (q < d .s) × (a < d .t) × (getD cells (5 + 2 * p) 0 < d .n) × (getD cells (6 + 2 * p) 0 ≤ 32)
+    reduces q a p e =
+        let (lq, la, ok) = act-some h q a (Reduce p) e (λ z. absurd (let k : _≡_ {A = ℕ} 0 1 = cc in omega arith)) in
+        let lp = reduce-allowed d a p ok in
+        (lq, la, left-side-below h p lp, length-most h p lp)
