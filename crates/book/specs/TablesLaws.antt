@@ -1,7 +1,7 @@
 -- Laws of the tables: what holds of every valid list of cells, and of the tables that it holds. Assumes nothing.
 use mathlib.Core.Bool.{Bool, true, false, cond, not, _&&_, and-false, false≢true}
 use mathlib.Core.List.{List}
-use mathlib.Core.Logic.{_⊎_, inl, inr, ⊎-elim}
+use mathlib.Core.Logic.{_≢_}
 use mathlib.Core.Path.{_≡_, refl, sym, _∙_, ap}
 use Prim.Native.Nat.{ℕ, suc, _+_, _*_, _-_, _%_, _≤_, _<_}
 use native.Mathlib.Decide.{decLt, ℕ-discrete}
@@ -94,6 +94,24 @@ module _ {d : Sizes} {cells : List ℕ} (h : Holds d cells) where
       (rw (i, le-ltb (2 * d .p + d .s * d .t + (q * d .n + X)) (2 * d .p) (omega arith), le-ltb (2 * d .p + d .s * d .t + (q * d .n + X)) (2 * d .p + d .s * d .t) (omega arith)) at e)
 
 -- ---- the tables
+-- what stands behind the guard of two bounds
+guarded : {A : Type 0} (x other : A) (q a s t : ℕ) → cond (ltb q s && ltb a t) x other ≢ other → (q < s) × (a < t)
+guarded x other q a s t n = go (decLt q s) (decLt a t)
+  where
+    go : Dec (q < s) → Dec (a < t) → (q < s) × (a < t)
+    go (yes lq) (yes la) = (lq, la)
+    go (yes lq) (no la) = absurd (n (rw (le-ltb a t (omega arith), and-false)))
+    go (no lq) la = absurd (n (rw (le-ltb q s (omega arith))))
+
+-- outside the ranges the action is error, and the goto none
+pub act-range : (cells : List ℕ) (q a : ℕ) → tablesOf cells .act q a ≢ Error → (q < sizesOf cells .s) × (a < sizesOf cells .t)
+unfolding tablesOf
+act-range cells q a n = guarded _ Error q a (sizesOf cells .s) (sizesOf cells .t) n
+
+pub goto-range : (cells : List ℕ) (q X : ℕ) → tablesOf cells .goto q X ≢ 0 → (q < sizesOf cells .s) × (X < sizesOf cells .n)
+unfolding tablesOf
+goto-range cells q X n = guarded _ 0 q X (sizesOf cells .s) (sizesOf cells .n) n
+
 module _ {d : Sizes} {cells : List ℕ} (h : Holds d cells) where
   pub act-inside : (q a : ℕ) → q < d .s → a < d .t → tablesOf cells .act q a ≡ actionOf (getD cells (actionAt d q a) 0)
   unfolding tablesOf
@@ -103,38 +121,16 @@ module _ {d : Sizes} {cells : List ℕ} (h : Holds d cells) where
   unfolding tablesOf
   goto-inside q X lq lX = rw (← h .sizes, lt-ltb q (d .s) lq, lt-ltb X (d .n) lX)
 
-  -- outside the ranges the action is error, and the goto none
-  act-outside : (q a : ℕ) → (d .s ≤ q) ⊎ (d .t ≤ a) → tablesOf cells .act q a ≡ Error
-  unfolding tablesOf
-  act-outside q a (inl l) = rw (← h .sizes, le-ltb q (d .s) l)
-  act-outside q a (inr l) = rw (← h .sizes, le-ltb a (d .t) l, and-false)
-
-  goto-outside : (q X : ℕ) → (d .s ≤ q) ⊎ (d .n ≤ X) → tablesOf cells .goto q X ≡ 0
-  unfolding tablesOf
-  goto-outside q X (inl l) = rw (← h .sizes, le-ltb q (d .s) l)
-  goto-outside q X (inr l) = rw (← h .sizes, le-ltb X (d .n) l, and-false)
-
-  -- both digits are below their bounds, or one is not
-  split : (q a s t : ℕ) → ((q < s) × (a < t)) ⊎ ((s ≤ q) ⊎ (t ≤ a))
-  split q a s t = go (decLt q s) (decLt a t)
-    where
-      go : Dec (q < s) → Dec (a < t) → ((q < s) × (a < t)) ⊎ ((s ≤ q) ⊎ (t ≤ a))
-      go (yes lq) (yes la) = inl (lq, la)
-      go (yes lq) (no la) = inr (inr (omega arith))
-      go (no lq) la = inr (inl (omega arith))
-
   -- an action that is not error stands inside, and is allowed there
-  pub act-some : (q a : ℕ) (x : Action) → tablesOf cells .act q a ≡ x → (x ≡ Error → ⊥) → (q < d .s) × (a < d .t) × (allowed d a x ≡ true)
-  act-some q a x e n = ⊎-elim
-      (λ l. (l .0, l .1, rw (sym (act-inside q a (l .0) (l .1)) ∙ e) at (action-allowed h q a (l .0) (l .1))))
-      (λ l. absurd (n (sym e ∙ act-outside q a l)))
-      (split q a (d .s) (d .t))
+  pub act-some : (q a : ℕ) (x : Action) → tablesOf cells .act q a ≡ x → x ≢ Error → (q < d .s) × (a < d .t) × (allowed d a x ≡ true)
+  act-some q a x e n =
+      let (lq, la) = rw (← h .sizes) at (act-range cells q a (λ z. n (sym e ∙ z))) in
+      (lq, la, rw (sym (act-inside q a lq la) ∙ e) at (action-allowed h q a lq la))
 
   pub goto-some : (q X g : ℕ) → tablesOf cells .goto q X ≡ suc g → (q < d .s) × (X < d .n) × (g < d .s)
-  goto-some q X g e = ⊎-elim
-      (λ l. (l .0, l .1, omega (arith, goto-most h q X (l .0) (l .1), goto-inside q X (l .0) (l .1))))
-      (λ l. absurd (omega (arith, goto-outside q X l)))
-      (split q X (d .s) (d .n))
+  goto-some q X g e =
+      let (lq, lX) = rw (← h .sizes) at (goto-range cells q X (λ z. omega (arith, z, e))) in
+      (lq, lX, omega (arith, goto-most h q X lq lX, goto-inside q X lq lX))
 
 -- ---- each number of the tables is in its range
 pub record InRange (B : Tables) : Type 0 where

@@ -1,0 +1,71 @@
+-- The sentence can be chosen symbol by symbol: the lowest with which a shortest word can go on. Assumes nothing.
+use mathlib.Core.List.{List, [], _∷_, _++_, append-assoc, append-nil}
+use mathlib.Core.Logic.{_⊎_, inl, inr, ⊎-elim, _≢_}
+use mathlib.Core.Path.{_≡_, refl, ap, sym, _∙_}
+use Prim.Native.Nat.{ℕ, suc, _+_, _≤_, _<_}
+use native.Mathlib.Decide.{decLt}
+use native.Mathlib.Omega.{arith}
+use lib.ListN.{length, length-append}
+use Rattle.book.specs.Tables.{Tables}
+use Rattle.machine.specs.Machine.{Reaches}
+use Rattle.walk.specs.Cost.{limit, Exact}
+use Rattle.walk.specs.Order.{Before, differs, agrees, Better}
+use Rattle.walk.specs.Answer.{Sentence, Answer}
+
+-- u begins a shortest word of P, with r symbols still to come, and every shortest word that begins otherwise is later
+pub record Chosen (rank : ℕ → ℕ) (P : List ℕ → Type 0) (u : List ℕ) (r : ℕ) : Type 0 where
+  pub goes-on : (v : List ℕ) × (length v ≡ r) × P (u ++ v)
+  pub shortest : (w : List ℕ) → P w → length u + r ≤ length w
+  pub earliest : (w : List ℕ) → P w → length w ≡ length u + r → ((v : List ℕ) × (w ≡ u ++ v)) ⊎ ((v : List ℕ) → length v ≡ r → Before rank (u ++ v) w)
+
+before-append : {rank : ℕ → ℕ} {v w : List ℕ} (u : List ℕ) → Before rank v w → Before rank (u ++ v) (u ++ w)
+before-append [] r = r
+before-append (a ∷ u) r = agrees (before-append u r)
+
+module _ {rank : ℕ → ℕ} {P : List ℕ → Type 0} where
+  pub chosen-none : {r : ℕ} → Exact P r → r ≤ limit → Chosen rank P [] r
+  chosen-none e h = record {
+    goes-on = ⊎-elim (λ i. absurd (omega arith)) (λ (w, p, i). (w, omega arith, p)) (e .attained);
+    shortest = λ w p. omega (arith, e .least w p);
+    earliest = λ w p l. inl (w, refl);
+  }
+
+  pub chosen-more : {u : List ℕ} {r : ℕ} (x : ℕ) → Chosen rank P u (suc r) → ((v : List ℕ) × (length v ≡ r) × P (u ++ (x ∷ v)))
+      → ((y : ℕ) (v : List ℕ) → length v ≡ r → P (u ++ (y ∷ v)) → (y ≡ x) ⊎ (rank x < rank y)) → Chosen rank P (u ++ (x ∷ [])) r
+  chosen-more {u} {r} x c g f = record {
+    goes-on = (g .0, g .1, rw append-assoc (g .2));
+    shortest = λ w p. omega (arith, length-append u (x ∷ []), c .shortest w p);
+    earliest = λ w p l.
+        let m : length w ≡ length u + suc r = omega (arith, length-append u (x ∷ [])) in
+        ⊎-elim (λ (v, e). next v e p m) (λ h. inr (λ v k. rw append-assoc (h (x ∷ v) (omega arith)))) (c .earliest w p m);
+  }
+    where
+      next : {w : List ℕ} (v : List ℕ) → w ≡ u ++ v → P w → length w ≡ length u + suc r
+          → ((v : List ℕ) × (w ≡ (u ++ (x ∷ [])) ++ v)) ⊎ ((v : List ℕ) → length v ≡ r → Before rank ((u ++ (x ∷ [])) ++ v) w)
+      next [] e p m = absurd (omega (arith, ap length e, length-append u []))
+      next (y ∷ v) e p m =
+          let l : length v ≡ r = omega (arith, ap length e, length-append u (y ∷ v)) in
+          ⊎-elim
+          (λ i. inl (v, rw (append-assoc, ← i) e))
+          (λ h. inr (λ t k. rw (append-assoc, e) (before-append u (differs h (k ∙ sym l)))))
+          (f y v l (rw e at p))
+
+  pub chosen-best : {u : List ℕ} → Chosen rank P u 0 → P u × ((v : List ℕ) → P v → v ≢ u → Better rank u v)
+  chosen-best {u} c = (ends (c .goes-on .0) (c .goes-on .1) (c .goes-on .2), λ v p n. best v p n (decLt (length u) (length v)))
+    where
+      ends : (v : List ℕ) → length v ≡ 0 → P (u ++ v) → P u
+      ends [] l p = rw append-nil at p
+      ends (a ∷ v) l p = absurd (omega arith)
+
+      ended : {w : List ℕ} (v : List ℕ) → length w ≡ length u → w ≡ u ++ v → w ≡ u
+      ended [] l e = rw append-nil at e
+      ended (a ∷ v) l e = absurd (omega (arith, ap length e, length-append u (a ∷ v)))
+
+      best : (v : List ℕ) → P v → v ≢ u → Dec (length u < length v) → Better rank u v
+      best v p n (yes h) = inl h
+      best v p n (no h) =
+          let l : length v ≡ length u = omega (arith, c .shortest v p) in
+          inr (⊎-elim (λ (t, e). absurd (n (ended t l e))) (λ g. rw append-nil at (g [] refl)) (c .earliest v p (omega arith)))
+
+pub chosen-answer : {rank : ℕ → ℕ} {B : Tables} {z s : ℕ} {u : List ℕ} → Chosen rank (λ w. Reaches B w z s) u 0 → length u ≤ limit → Answer rank B s z (Sentence u)
+chosen-answer c h = let (p, f) = chosen-best c in (p, h, f)

@@ -1,0 +1,35 @@
+-- Tables of costs by state and terminal over the claims: layers, distances from the start, distances to a set of pairs. Assumes nothing.
+use mathlib.Core.Logic.{_⊎_}
+use mathlib.Core.Path.{_≡_}
+use Prim.Native.Nat.{ℕ, suc, _≤_, _<_}
+use Rattle.book.specs.Tables.{Tables}
+use Rattle.book.specs.declared.Action.the-variants.{Shift}
+use Rattle.walk.specs.Cost.{unreached, plus}
+use Rattle.walk.specs.Claims.{Claims, Claimed, Least, Arrival, Onward}
+
+-- L has a cost for each state and next terminal; Longer B claim L q z v: from there one transition more leads to (q, z), at the cost v
+pub data Longer (B : Tables) (claim : Claims) (L : ℕ → ℕ → ℕ) : ℕ → ℕ → ℕ → Type 0 where
+  add-shift : {q₁ t q₂ : ℕ} (z : ℕ) → t < B .terminals → B .act q₁ t ≡ Shift q₂ → z < B .terminals → Longer B claim L q₂ z (plus (L q₁ t) 1)
+  add-goto : {q₁ q₂ : ℕ} (X b z : ℕ) → b < B .terminals → B .goto q₁ X ≡ suc q₂ → z < B .terminals
+      → Longer B claim L q₂ z (plus (L q₁ b) (claim q₁ X b z))
+
+-- .. and backwards: one transition from (q, a) leads to where G has a cost
+pub data Sooner (B : Tables) (claim : Claims) (G : ℕ → ℕ → ℕ) (q a : ℕ) : ℕ → Type 0 where
+  from-shift : {q₁ : ℕ} (b : ℕ) → B .act q a ≡ Shift q₁ → b < B .terminals → Sooner B claim G q a (plus 1 (G q₁ b))
+  from-goto : {q₁ : ℕ} (X b : ℕ) → B .goto q X ≡ suc q₁ → b < B .terminals → Sooner B claim G q a (plus (claim q X a b) (G q₁ b))
+
+-- L is the layer of n transitions from (q, a): the least cost to stand at each state and next terminal
+abbrev pub Layer : Tables → Claims → ℕ → ℕ → ℕ → (ℕ → ℕ → ℕ) → Type 0
+Layer B claim q a n L = (q′ z : ℕ) → z < B .terminals → Least (λ v. Claimed B claim q a v z n q′) (L q′ z)
+
+-- what passes over a table of distances from the start end with
+pub record FromStart (B : Tables) (claim : Claims) (D : ℕ → ℕ → ℕ) : Type 0 where
+  pub start : (z : ℕ) → z < B .terminals → D 0 z ≤ 0
+  pub closed : (q z v : ℕ) → Longer B claim D q z v → D q z ≤ v
+  pub attained : (q z : ℕ) → z < B .terminals → (D q z ≡ unreached) ⊎ Arrival B claim q z (D q z)
+
+-- what passes over a table of distances to the goal pairs end with
+pub record ToGoal (B : Tables) (claim : Claims) (Goal : ℕ → ℕ → Type 0) (G : ℕ → ℕ → ℕ) : Type 0 where
+  pub goal : (s z : ℕ) → Goal s z → z < B .terminals → G s z ≤ 0
+  pub closed : (q a v : ℕ) → a < B .terminals → Sooner B claim G q a v → G q a ≤ v
+  pub attained : (q a : ℕ) → a < B .terminals → (G q a ≡ unreached) ⊎ Onward B claim Goal q a (G q a)

@@ -1,0 +1,79 @@
+-- Laws of layers and distances: what a table has to satisfy, one transition at a time, to hold the least claimed costs. Assumes nothing.
+use mathlib.Core.Logic.{_⊎_, inl, inr, ⊎-elim}
+use mathlib.Core.Path.{_≡_, refl}
+use Prim.Native.Nat.{ℕ, zero, suc, _≤_, _<_}
+use native.Mathlib.Nat.{le-trans, le-refl}
+use native.Mathlib.Omega.{arith}
+use Rattle.book.specs.Tables.{Tables}
+use Rattle.walk.specs.Walk.{Walk}
+use Rattle.walk.specs.Cost.{unreached, Attained}
+use Rattle.walk.specs.CostLaws.{plus-mono, plus-far-left, plus-far-right}
+use Rattle.walk.specs.Claims.{Claims, Claimed, none, shifting, crossing, Witnessed, Least, Arrival, Onward}
+use Rattle.walk.specs.ClaimsLaws.{attained-shift, attained-cross, claimed-next, claimed-terminal, claimed-shift, claimed-goto, Start, nowhere, shift-first, goto-first, claimed-start}
+use Rattle.walk.specs.Layers.{Longer, add-shift, add-goto, Sooner, from-shift, from-goto, Layer, FromStart, ToGoal}
+
+module _ {B : Tables} {claim : Claims} where
+  -- the layer of no transitions
+  pub layer-here : {q a : ℕ} → a < B .terminals → Least (λ v. Claimed B claim q a v a 0 q) 0
+  layer-here h = record { below = λ x c. omega arith; attained = inr (none h) }
+
+  pub layer-elsewhere : {q a q′ z : ℕ} → (q ≡ q′ → a ≡ z → ⊥) → Least (λ v. Claimed B claim q a v z 0 q′) unreached
+  layer-elsewhere f = record { below = λ x c. absurd (away f c); attained = inl refl }
+    where
+      away : {q a v q′ z : ℕ} → (q ≡ q′ → a ≡ z → ⊥) → ¬ Claimed B claim q a v z 0 q′
+      away f (none h) = f refl refl
+
+  -- one more transition
+  pub layer-longer : {q a n q′ z d : ℕ} {L : ℕ → ℕ → ℕ} → Layer B claim q a n L → Least (Longer B claim L q′ z) d → Least (λ v. Claimed B claim q a v z (suc n) q′) d
+  layer-longer {q} {a} {n} {q′} {z} {d} {L} l m = record { below = λ x c. low c m; attained = ⊎-elim inl (λ x. up x) (m .attained) }
+    where
+      low : {x d q′ z : ℕ} → Claimed B claim q a x z (suc n) q′ → Least (Longer B claim L q′ z) d → d ≤ x
+      low (shifting {t} {q₁} z c e h) m = le-trans (m .below _ (add-shift z (claimed-next c) e h)) (plus-mono (l q₁ t (claimed-next c) .below _ c) (le-refl 1))
+      low (crossing {b} {q₁} X z c g h) m = le-trans (m .below _ (add-goto X b z (claimed-next c) g h)) (plus-mono (l q₁ b (claimed-next c) .below _ c) (le-refl _))
+
+      up : {v q′ z : ℕ} → Longer B claim L q′ z v → (v ≡ unreached) ⊎ Claimed B claim q a v z (suc n) q′
+      up (add-shift {q₁} {t} z k e h) = ⊎-elim (λ i. inl (plus-far-left _ _ (omega arith))) (λ c. inr (shifting z c e h)) (l q₁ t k .attained)
+      up (add-goto {q₁} X b z k g h) = ⊎-elim (λ i. inl (plus-far-left _ _ (omega arith))) (λ c. inr (crossing X z c g h)) (l q₁ b k .attained)
+
+  -- the same for walks alone, while claims are still being lowered
+  pub walk-longer : {q a n q′ z v : ℕ} {L : ℕ → ℕ → ℕ} → Witnessed B claim → ((q₁ b : ℕ) → b < B .terminals → Attained (λ w. Walk B q a w b n q₁) (L q₁ b))
+      → Longer B claim L q′ z v → Attained (λ w. Walk B q a w z (suc n) q′) v
+  walk-longer k l (add-shift {q₁} {t} z i e h) = attained-shift z (l q₁ t i) e
+  walk-longer k l (add-goto {q₁} X b z i g h) = attained-cross (l q₁ b i) (k .witness q₁ X b z i h g) g
+
+  -- distances from the start: what a transition makes of attained distances is attained ..
+  pub arrival-longer : {D : ℕ → ℕ → ℕ} {q z v : ℕ} → ((q z : ℕ) → z < B .terminals → (D q z ≡ unreached) ⊎ Arrival B claim q z (D q z))
+      → Longer B claim D q z v → (v ≡ unreached) ⊎ Arrival B claim q z v
+  arrival-longer f (add-shift {q₁} {t} z k e h) = ⊎-elim (λ i. inl (plus-far-left _ _ (omega arith))) (λ (a, n, c). inr (a, suc n, shifting z c e h)) (f q₁ t k)
+  arrival-longer f (add-goto {q₁} X b z k g h) = ⊎-elim (λ i. inl (plus-far-left _ _ (omega arith))) (λ (a, n, c). inr (a, suc n, crossing X z c g h)) (f q₁ b k)
+
+  -- .. and where nothing is left to lower they are the least
+  module _ {D : ℕ → ℕ → ℕ} (f : FromStart B claim D) where
+    start-below : {q a v z n s : ℕ} → q ≡ 0 → Claimed B claim q a v z n s → D s z ≤ v
+    start-below {z} i (none h) = rw i (f .start z h)
+    start-below i (shifting z c e h) = le-trans (f .closed _ _ _ (add-shift z (claimed-next c) e h)) (plus-mono (start-below i c) (le-refl 1))
+    start-below i (crossing {b} X z c g h) = le-trans (f .closed _ _ _ (add-goto X b z (claimed-next c) g h)) (plus-mono (start-below i c) (le-refl _))
+
+    pub start-least : {s z : ℕ} → z < B .terminals → Least (Arrival B claim s z) (D s z)
+    start-least {s} {z} h = record { below = λ x (a, n, c). start-below refl c; attained = f .attained s z h }
+
+  -- distances to the goal pairs, likewise
+  pub onward-sooner : {Goal : ℕ → ℕ → Type 0} {G : ℕ → ℕ → ℕ} {q a v : ℕ} → ((q a : ℕ) → a < B .terminals → (G q a ≡ unreached) ⊎ Onward B claim Goal q a (G q a))
+      → a < B .terminals → Sooner B claim G q a v → (v ≡ unreached) ⊎ Onward B claim Goal q a v
+  onward-sooner f k (from-shift {q₁} b e h) = ⊎-elim
+      (λ i. inl (plus-far-right _ _ (omega arith)))
+      (λ (n, s, z, j, c). inr (suc n, s, z, j, claimed-shift e k c))
+      (f q₁ b h)
+  onward-sooner f k (from-goto {q₁} X b g h) = ⊎-elim
+      (λ i. inl (plus-far-right _ _ (omega arith)))
+      (λ (n, s, z, j, c). inr (suc n, s, z, j, claimed-goto X g k c))
+      (f q₁ b h)
+
+  module _ {Goal : ℕ → ℕ → Type 0} {G : ℕ → ℕ → ℕ} (f : ToGoal B claim Goal G) where
+    goal-below : {q a v z s : ℕ} (n : ℕ) → Goal s z → a < B .terminals → Start B claim q a v z n s → G q a ≤ v
+    goal-below {z} {s} zero j h nowhere = f .goal s z j h
+    goal-below (suc n) j h (shift-first {b} e c) = le-trans (f .closed _ _ _ h (from-shift b e (claimed-terminal c))) (plus-mono (le-refl 1) (goal-below n j (claimed-terminal c) (claimed-start c)))
+    goal-below (suc n) j h (goto-first {b} X g c) = le-trans (f .closed _ _ _ h (from-goto X b g (claimed-terminal c))) (plus-mono (le-refl _) (goal-below n j (claimed-terminal c) (claimed-start c)))
+
+    pub goal-least : {q a : ℕ} → a < B .terminals → Least (Onward B claim Goal q a) (G q a)
+    goal-least {q} {a} h = record { below = λ x (n, s, z, j, c). goal-below n j h (claimed-start c); attained = f .attained q a h }

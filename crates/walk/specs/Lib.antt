@@ -1,0 +1,17 @@
+pub mod Walk
+pub mod WalkLaws
+pub mod Cost
+pub mod CostLaws
+pub mod Claims
+pub mod ClaimsLaws
+pub mod Layers
+pub mod LayersLaws
+pub mod Order
+pub mod OrderLaws
+pub mod Answer
+pub mod AnswerLaws
+pub mod ChoiceLaws
+pub mod Stars
+pub mod StarsLaws
+pub mod Theory
+pub mod TheoryLaws

@@ -1,0 +1,28 @@
+-- Walks: what the machine does from a state by transitions alone, and what it can reach from any stack. Assumes nothing.
+use mathlib.Core.Path.{_≡_}
+use mathlib.Core.List.{List, [], _∷_, _++_}
+use Prim.Native.Nat.{ℕ, suc, _+_}
+use lib.ListN.{drop}
+use Rattle.book.specs.Tables.{Tables}
+use Rattle.book.specs.declared.Action.the-variants.{Shift, Reduce}
+
+-- Walk B q a w z n q′: with q on top of any stack, n transitions lead to q′ and push n states by taking in w, where z is the next terminal
+-- and a is the first of w z. 'A transition is a shift or a goto that is not none'; a goto is crossed by a walk of the production's length
+-- to a state that reduces it under the terminal that follows
+pub data Walk (B : Tables) : ℕ → ℕ → List ℕ → ℕ → ℕ → ℕ → Type 0 where
+  here : {q z : ℕ} → Walk B q z [] z 0 q
+  shifted : {q a t n q₁ q₂ : ℕ} {w : List ℕ} (z : ℕ) → Walk B q a w t n q₁ → B .act q₁ t ≡ Shift q₂ → Walk B q a (w ++ (t ∷ [])) z (suc n) q₂
+  crossed : {q a b z n q₁ m q₂ p q₃ : ℕ} {w v : List ℕ} → Walk B q a w b n q₁ → Walk B q₁ b v z m q₂
+      → B .act q₂ z ≡ Reduce p → B .len p ≡ m → B .goto q₁ (B .lhs p) ≡ suc q₃ → Walk B q a (w ++ v) z (suc n) q₃
+
+-- the first terminal of w z
+unfoldable pub first : List ℕ → ℕ → ℕ
+first [] z = z
+first (t ∷ w) z = t
+
+-- Gets B s z stack a w: fed w z, whose first terminal is a, the machine started on the stack brings s on top with w taken in and z not:
+-- by a walk from its top, or by a walk to a reduction that pops the stack below the top, k states of it, and then from the smaller stack
+pub data Gets (B : Tables) (s z : ℕ) : List ℕ → ℕ → List ℕ → Type 0 where
+  arrives : {q a n : ℕ} {st w : List ℕ} → Walk B q a w z n s → Gets B s z (q ∷ st) a w
+  pops : {q a b n q₁ p q₂ g : ℕ} {st w v st₂ : List ℕ} (k : ℕ) → Walk B q a w b n q₁ → B .act q₁ b ≡ Reduce p → B .len p ≡ n + suc k
+      → drop k st ≡ q₂ ∷ st₂ → B .goto q₂ (B .lhs p) ≡ suc g → Gets B s z (g ∷ q₂ ∷ st₂) b v → Gets B s z (q ∷ st) a (w ++ v)
