@@ -6,6 +6,7 @@ pub mod BytesLaws
 pub mod IndexLaws
 pub mod Range
 pub mod RangeLaws
+pub mod RoundTripLaws
 pub mod RowLaws
 pub mod Tables
 pub mod TablesLaws

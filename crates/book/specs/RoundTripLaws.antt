@@ -1,0 +1,141 @@
+-- Reading and writing a book undo each other. Assumes nothing.
+use mathlib.Core.Path.{_≡_, refl, sym, _∙_, ap, ap₂}
+use mathlib.Core.List.{List, [], _∷_, _++_, append-assoc, append-nil, nil≢cons}
+use Prim.Native.Nat.{ℕ, zero, suc, _+_, _≤_, _<_}
+use native.Mathlib.Nat.{add-assoc, add-zero, zero-add}
+use native.Mathlib.Numerals.{add-one}
+use native.Mathlib.Omega.{arith}
+use borrow.Author.Tests.{lt-ltb, le-ltb, eq-eqb}
+use lib.ListN.{length, getD, drop, length-append, length-drop, drop-of-length-le}
+use lib.Seq.{drop-cons, drop-drop, drop-append-seam, getD-drop}
+use Rattle.number.specs.Number.{numberAt, written, value, first}
+use Rattle.number.specs.NumberLaws.{Bytes, Stands, first-written, first-stands, value-is}
+use Rattle.number.specs.declared.Cursor.{Cursor}
+use Rattle.number.specs.declared.Number.{Number}
+use Rattle.number.specs.declared.Number.the-variants.{Value}
+use Rattle.book.specs.Book.{cellAt, Row, read, row, before, bookIn, ofBytes, ofCells, bytesOf}
+use Rattle.book.specs.BookLaws.{Whole, book-whole, Part, cells-row}
+use Rattle.book.specs.BytesLaws.{bytes-append}
+use Rattle.book.specs.Range.{headFault, bodyFault, bodyLength}
+use Rattle.book.specs.RowLaws.{Front, row-front, row-empty}
+use Rattle.book.specs.Tables.{sizesOf}
+
+-- the elements of a slice of cells
+abbrev pub Cells : List ℕ → Type 0
+Cells s = (i : ℕ) → getD s i 0 < 65536
+
+-- the numbers that a source has from a place up to another
+data Reads (source : ℕ → Number) : ℕ → List ℕ → ℕ → Type 0 where
+  none : {at : ℕ} → Reads source at [] at
+  more : {at v next : ℕ} {vs : List ℕ} (cursor : Cursor) → source at ≡ Value v cursor → Reads source (cursor .at) vs next → Reads source at (v ∷ vs) next
+
+-- ---- a row that one source has, any other that has its numbers has too
+row-reads : (source : ℕ → Number) (fault : ℕ → ℕ → ℕ) (k i at : ℕ) (vs : List ℕ) (next : ℕ) → row source fault k i at ≡ read vs next → Reads source at vs next
+row-reads source fault zero i at vs next e = let (p, q) = row-empty source fault i at vs next e in rw (← p, ← q) none
+row-reads source fault (suc k) i at vs next e =
+    let f = row-front source fault k i at vs next e in
+    rw (f .split) (more (f .cursor) (f .found) (row-reads source fault k (suc i) (f .cursor .at) (f .rest) next (f .onward)))
+
+reads-row : {other : ℕ → Number} {at′ next′ : ℕ} {vs : List ℕ} (source : ℕ → Number) (fault : ℕ → ℕ → ℕ) (k i at next : ℕ)
+    → row source fault k i at ≡ read vs next → Reads other at′ vs next′ → row other fault k i at′ ≡ read vs next′
+unfolding row
+reads-row source fault zero i at next e none = refl
+reads-row source fault zero i at next e (more {v} {vs} c f r) = absurd (nil≢cons (row-empty source fault i at (v ∷ vs) next e .0))
+reads-row source fault (suc k) i at next e none = absurd (nil≢cons (row-front source fault k i at [] next e .split))
+reads-row source fault (suc k) i at next e (more {v} {vs} c f r) =
+    let g = row-front source fault k i at (v ∷ vs) next e in
+    let h : g .v ≡ v = cc (sym (g .split)) in
+    let j : g .rest ≡ vs = cc (sym (g .split)) in
+    let onward = reads-row source fault k (suc i) (g .cursor .at) next (rw j at (g .onward)) r in
+    rw (f, eq-eqb (fault i v) 0 (rw h at (g .clean)), onward)
+
+-- some of the numbers, and then the others
+reads-split : {source : ℕ → Number} {at next : ℕ} (a b : List ℕ) → Reads source at (a ++ b) next
+    → (mid : ℕ) × Reads source at a mid × Reads source mid b next
+reads-split {at} [] b r = (at, none, r)
+reads-split (v ∷ a) b (more c f r) = let (mid, p, q) = reads-split a b r in (mid, more c f p, q)
+
+reads-join : {source : ℕ → Number} {at mid next : ℕ} {a b : List ℕ} → Reads source at a mid → Reads source mid b next → Reads source at (a ++ b) next
+reads-join none q = q
+reads-join (more c f p) q = more c f (reads-join p q)
+
+-- ---- so does a book
+book-other : (source other : ℕ → Number) (end end′ : ℕ) (cells : List ℕ) (next next′ : ℕ)
+    → bookIn source end ≡ read cells next → Reads other 0 cells next′ → end′ ≤ next′ → bookIn other end′ ≡ read cells next′
+unfolding bookIn
+book-other source other end end′ cells next next′ e r h =
+    let w = book-whole source end cells next e in
+    let (mid, p, q) = reads-split (w .head) (w .body) (rw (w .both) at r) in
+    let f = reads-row source headFault 5 0 0 (w .at) (w .first) p in
+    let g = reads-row source (bodyFault (sizesOf (w .head))) (bodyLength (sizesOf (w .head))) 0 (w .at) next (w .second) q in
+    rw (f, g, le-ltb next′ end′ h, ← w .both)
+
+book-reads : (source : ℕ → Number) (end : ℕ) (cells : List ℕ) (next : ℕ) → bookIn source end ≡ read cells next → Reads source 0 cells next
+book-reads source end cells next e =
+    let w = book-whole source end cells next e in
+    rw (w .both)
+    (reads-join (row-reads source headFault 5 0 0 (w .head) (w .at) (w .first))
+    (row-reads source (bodyFault (sizesOf (w .head))) (bodyLength (sizesOf (w .head))) 0 (w .at) (w .body) next (w .second)))
+
+-- ---- cells and bytes as sources
+-- cells have their own numbers
+cells-reads : (cells : List ℕ) (at : ℕ) (vs : List ℕ) → drop at cells ≡ vs → at + length vs ≡ length cells → Reads (cellAt cells) at vs (at + length vs)
+unfolding cellAt
+cells-reads cells at [] e h = rw add-zero none
+cells-reads cells at (v ∷ vs) e h =
+    let l : at < length cells = omega arith in
+    let c = drop-cons cells at 0 l in
+    let i : getD cells at 0 ≡ v = cc in
+    let j : drop (at + 1) cells ≡ vs = rw add-one (cc) in
+    let p : at + suc (length vs) ≡ at + 1 + length vs = omega arith in
+    let found : cellAt cells at ≡ Value v (record { at = at + 1 }) = rw (lt-ltb at (length cells) l, i) in
+    rw p (more (record { at = at + 1 }) found (cells-reads cells (at + 1) vs j (omega arith)))
+
+-- what lies after a number's bytes
+past : (bytes : List ℕ) (at v : ℕ) (rest : List ℕ) → drop at bytes ≡ written v ++ rest → drop (at + length (written v)) bytes ≡ rest
+past bytes at v rest e = rw (← drop-drop, e, drop-append-seam)
+
+-- bytes have the numbers that are written in them
+bytes-reads : (bytes : List ℕ) (at : ℕ) (vs : List ℕ) → Cells vs → drop at bytes ≡ bytesOf vs → Reads (numberAt bytes) at vs (at + length (bytesOf vs))
+unfolding numberAt
+bytes-reads bytes at [] small e = rw add-zero none
+bytes-reads bytes at (v ∷ vs) small e =
+    let found : numberAt bytes at ≡ Value v (record { at = at + length (written v) }) = rw e (first-written at v (bytesOf vs) (small 0)) in
+    rw (length-append, ← add-assoc)
+    (more (record { at = at + length (written v) }) found
+    (bytes-reads bytes (at + length (written v)) vs (λ i. small (suc i)) (past bytes at v (bytesOf vs) e)))
+
+cells-cons : (v : ℕ) (vs : List ℕ) → v < 65536 → Cells vs → Cells (v ∷ vs)
+cells-cons v vs h c zero = h
+cells-cons v vs h c (suc i) = c i
+
+-- .. and no others
+reads-bytes : {at next : ℕ} {vs : List ℕ} (bytes : List ℕ) → Bytes bytes → Reads (numberAt bytes) at vs next
+    → (drop at bytes ≡ bytesOf vs ++ drop next bytes) × Cells vs
+unfolding numberAt
+reads-bytes bytes b none = (refl, λ i. omega arith)
+reads-bytes {at} {next} bytes b (more {v} {vs} c f r) =
+    let s = first-stands at (drop at bytes) v (c .at) (λ i. rw getD-drop (b (at + i))) f in
+    let (p, q) = reads-bytes bytes b r in
+    let rest : s .rest ≡ bytesOf vs ++ drop next bytes = sym (past bytes at v (s .rest) (s .whole)) ∙ rw (s .after) at p in
+    (s .whole ∙ rw (rest, append-assoc), cells-cons v vs (s .small) q)
+
+-- ---- the two laws
+-- reading what writing makes of valid cells gives those cells
+pub read-written : (cells : List ℕ) → Cells cells → ofCells cells ≡ read cells (length cells) → ofBytes (bytesOf cells) ≡ read cells (length (bytesOf cells))
+unfolding ofCells ofBytes
+read-written cells small e =
+    let r = bytes-reads (bytesOf cells) 0 cells small refl in
+    book-other (cellAt cells) (numberAt (bytesOf cells)) (length cells) (length (bytesOf cells)) cells (length cells) (length (bytesOf cells)) e (rw zero-add at r) (omega arith)
+
+-- writing what reading makes of accepted bytes gives those bytes, and the cells are valid
+pub written-read : (bytes cells : List ℕ) (next : ℕ) → Bytes bytes → ofBytes bytes ≡ read cells next → (bytesOf cells ≡ bytes) × (ofCells cells ≡ read cells (length cells))
+unfolding ofCells ofBytes
+written-read bytes cells next b e =
+    let r = book-reads (numberAt bytes) (length bytes) cells next e in
+    let w = book-whole (numberAt bytes) (length bytes) cells next e in
+    let (p, q) = reads-bytes bytes b r in
+    let end : drop next bytes ≡ [] = drop-of-length-le bytes (w .closed) in
+    let all : bytes ≡ bytesOf cells = p ∙ rw (end, append-nil) in
+    let i = rw zero-add at (cells-reads cells 0 cells refl (omega arith)) in
+    (sym all, book-other (numberAt bytes) (cellAt cells) (length bytes) (length cells) cells next (length cells) e i (omega arith))
