@@ -2,13 +2,16 @@
 use mathlib.Core.Bool.{Bool, true, false, cond, not, _&&_, _||_, false≢true}
 use mathlib.Core.List.{List, [], _∷_, _++_}
 use mathlib.Core.Logic.{_⊎_, inl, inr, ⊎-elim, _≢_, by-cases}
-use mathlib.Core.Path.{_≡_, refl, sym}
+use mathlib.Core.Path.{_≡_, refl, sym, ap₂}
 use Prim.Native.Nat.{ℕ, zero, suc, _<_}
 use native.Mathlib.Decide.{decLt, ℕ-discrete}
 use native.Mathlib.Omega.{arith}
 use lib.Dec.{ltb, leb, eqb}
 use lib.ListN.{length, getD}
 use borrow.Author.Tests.{ltb-true, leb-true, eqb-true, eq-eqb}
+use Rattle.number.specs.Number.{numberAt, first, second, third, value, refusal}
+use Rattle.number.specs.declared.Number.{Number}
+use Rattle.number.specs.declared.Number.the-variants.{Value, Refused}
 use Rattle.book.specs.Action.{actionOf}
 use Rattle.book.specs.Tables.{Tables, sizesOf, tablesOf}
 use Rattle.book.specs.TablesLaws.{act-range}
@@ -21,7 +24,7 @@ use Rattle.walk.specs.WalkLaws.{reaches-walk}
 use Rattle.walk.specs.Order.{Before, differs, agrees, Better}
 use Rattle.walk.specs.Cost.{limit}
 use Rattle.walk.specs.Answer.{Unreached, Long, Sentence, Answer}
-use Rattle.walk.specs.Stars.{Line, pair, bracket, double, stars, Holds, All}
+use Rattle.walk.specs.Stars.{Line, number, pair, bracket, double, stars, Holds, All}
 
 both : (a b : Bool) → (a && b) ≡ true → (a ≡ true) × (b ≡ true)
 both true b e = (refl, e)
@@ -262,13 +265,34 @@ unreached-answer cells s z e w r =
     let (i, j) = both (unreduced? B z) (unshifted? B s) k in
     no-walk cells (λ n. untrue (eqb s 0) h (eq-eqb s 0 n)) i j (reaches-walk r .1)
 
+-- ---- numbers
+same? : Number → Number → Bool
+same? (Value n c) (Value m d) = eqb n m && eqb (c .at) (d .at)
+same? (Value n c) (Refused r) = false
+same? (Refused r) (Value m d) = false
+same? (Refused r) (Refused q) = eqb (r .number) (q .number) && eqb (r .place) (q .place)
+
+same : (x y : Number) → same? x y ≡ true → x ≡ y
+unfolding same?
+same (Value n c) (Value m d) e =
+    let (i, j) = both (eqb n m) (eqb (c .at) (d .at)) e in
+    ap₂ value (eqb-true n m i) (eqb-true (c .at) (d .at) j)
+same (Value n c) (Refused r) e = absurd (false≢true e)
+same (Refused r) (Value m d) e = absurd (false≢true e)
+same (Refused r) (Refused q) e =
+    let (i, j) = both (eqb (r .number) (q .number)) (eqb (r .place) (q .place)) e in
+    ap₂ refusal (eqb-true (r .number) (q .number) i) (eqb-true (r .place) (q .place) j)
+
+-- ---- the table
 right? : Line → Bool
+right? (number bytes r) = same? (numberAt bytes 0) r
 right? (pair cells s z Unreached) = unreached? (tablesOf cells) s z
 right? (pair cells s z Long) = false
 right? (pair cells s z (Sentence w)) = sentence? (tablesOf cells) s z w
 
 right-holds : (l : Line) → right? l ≡ true → Holds l
 unfolding right?
+right-holds (number bytes r) e = same (numberAt bytes 0) r e
 right-holds (pair cells s z Unreached) e = unreached-answer cells s z e
 right-holds (pair cells s z Long) e = absurd (false≢true e)
 right-holds (pair cells s z (Sentence w)) e = sentence-answer (tablesOf cells) s z w e
@@ -284,5 +308,5 @@ all-right (l ∷ ls) e = let (i, j) = both (right? l) (all-right? ls) e in (righ
 
 -- every line marked ★ holds
 pub stars-hold : All stars
-unfolding stars bracket double all-right? right? sentence? unreached? unreduced? unshifted? tablesOf sizesOf actionOf next missed hits misses follow after meets terminals? upto every later shifts-to reduces?
+unfolding stars bracket double all-right? right? same? numberAt first second third sentence? unreached? unreduced? unshifted? tablesOf sizesOf actionOf next missed hits misses follow after meets terminals? upto every later shifts-to reduces?
 stars-hold = all-right stars refl
