@@ -1,0 +1,108 @@
+-- Laws of sets: how they grow, which bits they have, and that the count of the bits is the number of members. Assumes nothing.
+use mathlib.Core.Bool.{Bool, true, false, cond}
+use mathlib.Core.Path.{_≡_, refl, sym, _∙_, ap, ap₂}
+use Prim.Native.Nat.{ℕ, zero, suc, _+_, _-_, _*_, _/_, _%_, _^_, _≤_, _<_}
+use native.Mathlib.Nat.{two-pow-succ, one-mul, zero-mul, zero-add, add-zero, add-comm, mul-comm, mul-assoc, suc-mul, pow-suc, div-add-mod', div-eq-of-lt, add-mul-div-right, add-mul-mod-self-right, mod-lt, not-suc-le-zero}
+use native.Mathlib.Numerals.{add-one}
+use native.Mathlib.Decide.{ℕ-discrete}
+use native.Mathlib.Omega.{arith}
+use borrow.Author.Tests.{eq-eqb, ne-eqb}
+use lib.Bits.{bitOr, or-shifted-r, or-block, or-step, or-zero-r}
+use lib.Pow.{pow-pos, pow-add}
+use lib.Dec.{eqb}
+use lib.Count.{ones, ones-cat}
+use Rattle.sets.specs.Set.{setOf, countOf, member}
+
+-- a member counts as one block of bits, above those below it
+one-of : (b : Bool) (p : ℕ) → cond b p 0 ≡ cond b 1 0 * p
+one-of true p = sym (one-mul p)
+one-of false p = sym (zero-mul p)
+
+-- the members below k are a number below 2 ^ k
+pub set-below : (P : ℕ → Bool) (k : ℕ) → setOf P k < 2 ^ k
+unfolding setOf
+set-below P zero = omega arith
+set-below P (suc k) = grown (P k) (set-below P k)
+  where
+    grown : (b : Bool) → setOf P k < 2 ^ k → cond b (2 ^ k) 0 + setOf P k < 2 ^ suc k
+    grown true h = omega (arith, two-pow-succ k)
+    grown false h = omega (arith, two-pow-succ k)
+
+-- one terminal more: it is put in, where only those below it are, or left out
+pub set-more : (P : ℕ → Bool) (k : ℕ) → cond (P k) (bitOr (setOf P k) (2 ^ k)) (setOf P k) ≡ setOf P (k + 1)
+unfolding setOf
+set-more P k = rw add-one (grown (P k))
+  where
+    grown : (b : Bool) → cond b (bitOr (setOf P k) (2 ^ k)) (setOf P k) ≡ cond b (2 ^ k) 0 + setOf P k
+    grown true = rw one-mul at (or-shifted-r 1 k (setOf P k) (set-below P k))
+    grown false = rw zero-add
+
+bit-count : (b : Bool) → ones (cond b 1 0) ≡ cond b 1 0
+unfolding ones
+bit-count true = refl
+bit-count false = refl
+
+-- the count of the bits is the number of members
+pub set-count : (P : ℕ → Bool) (k : ℕ) → ones (setOf P k) ≡ countOf P k
+unfolding setOf countOf ones
+set-count P zero = refl
+set-count P (suc k) = rw (one-of (P k) (2 ^ k), ones-cat k (cond (P k) 1 0) (setOf P k) (set-below P k), bit-count (P k), set-count P k)
+
+-- ---- members
+-- what stands above bit z, and below it
+split-at : (n z : ℕ) → n ≡ n / 2 ^ z * 2 ^ z + n % 2 ^ z
+split-at n z = sym (div-add-mod' n (2 ^ z))
+
+-- putting in bit z
+or-one : (a : ℕ) → bitOr a 1 ≡ a / 2 * 2 + 1
+or-one a = or-step a 1 ∙ rw or-zero-r (omega arith)
+
+-- it changes nothing exactly where the bit is there
+pub or-member : (n z : ℕ) → eqb (bitOr n (2 ^ z)) n ≡ member n z
+or-member n z = go (ℕ-discrete (n / 2 ^ z % 2) 1)
+  where
+    put : bitOr n (2 ^ z) ≡ (n / 2 ^ z / 2 * 2 + 1) * 2 ^ z + n % 2 ^ z
+    put =
+        ap₂ bitOr (split-at n z) (sym (add-zero (1 * 2 ^ z) ∙ one-mul (2 ^ z)))
+        ∙ or-block z (n / 2 ^ z) 1 (n % 2 ^ z) 0 (mod-lt n (pow-pos z)) (pow-pos z)
+        ∙ ap₂ (λ (a b : ℕ). a * 2 ^ z + b) (or-one (n / 2 ^ z)) (or-zero-r (n % 2 ^ z))
+
+    go : Dec (n / 2 ^ z % 2 ≡ 1) → eqb (bitOr n (2 ^ z)) n ≡ member n z
+    go (yes h) =
+        let same : n / 2 ^ z / 2 * 2 + 1 ≡ n / 2 ^ z = omega arith in
+        eq-eqb _ _ (put ∙ ap (λ (a : ℕ). a * 2 ^ z + n % 2 ^ z) same ∙ sym (split-at n z)) ∙ sym (eq-eqb _ 1 h)
+    go (no h) =
+        let more : n / 2 ^ z / 2 * 2 + 1 ≡ suc (n / 2 ^ z) = omega arith in
+        let grown : bitOr n (2 ^ z) ≡ suc (n / 2 ^ z) * 2 ^ z + n % 2 ^ z = put ∙ ap (λ (a : ℕ). a * 2 ^ z + n % 2 ^ z) more in
+        ne-eqb (bitOr n (2 ^ z)) n (λ e. omega (arith, e, grown, suc-mul (n / 2 ^ z) (2 ^ z), split-at n z, pow-pos z)) ∙ sym (ne-eqb _ 1 h)
+
+-- what stands at bit k and above it does not change a bit below it
+above : (c m z s : ℕ) → (c * 2 ^ (z + suc m) + s) / 2 ^ z % 2 ≡ s / 2 ^ z % 2
+above c m z s =
+    let even : c * 2 ^ (z + suc m) + s ≡ s + (c * 2 ^ m * 2) * 2 ^ z =
+    ap (λ (x : ℕ). c * x + s) (pow-add 2 z (suc m) ∙ mul-comm (2 ^ z) (2 ^ suc m) ∙ ap (λ (x : ℕ). x * 2 ^ z) (pow-suc 2 m))
+    ∙ ap (λ (x : ℕ). x + s) (sym (mul-assoc c (2 ^ m * 2) (2 ^ z)) ∙ ap (λ (x : ℕ). x * 2 ^ z) (sym (mul-assoc c (2 ^ m) 2)))
+    ∙ add-comm _ s in
+    ap (λ (x : ℕ). x / 2 ^ z % 2) even ∙ ap (λ (x : ℕ). x % 2) (add-mul-div-right s (c * 2 ^ m * 2) (pow-pos z)) ∙ add-mul-mod-self-right (s / 2 ^ z) (c * 2 ^ m) 2
+
+-- bit k of what is put above the bits below it
+top : (c k s : ℕ) → s < 2 ^ k → (c * 2 ^ k + s) / 2 ^ k ≡ c
+top c k s h = ap (λ (x : ℕ). x / 2 ^ k) (add-comm (c * 2 ^ k) s) ∙ add-mul-div-right s c (pow-pos k) ∙ ap (λ (x : ℕ). x + c) (div-eq-of-lt h) ∙ zero-add c
+
+-- 'bit z for terminal z'
+pub set-member : (P : ℕ → Bool) (k z : ℕ) → z < k → member (setOf P k) z ≡ P z
+unfolding setOf
+set-member P zero z h = absurd (not-suc-le-zero h)
+set-member P (suc k) z h = rw (one-of (P k) (2 ^ k)) (go (ℕ-discrete z k) (λ l. set-member P k z l))
+  where
+    bit : (b : Bool) → eqb (cond b 1 0 % 2) 1 ≡ b
+    bit true = refl
+    bit false = refl
+
+    go : Dec (z ≡ k) → (z < k → member (setOf P k) z ≡ P z) → member (cond (P k) 1 0 * 2 ^ k + setOf P k) z ≡ P z
+    go (yes e) r = rw (e, top (cond (P k) 1 0) k (setOf P k) (set-below P k)) (bit (P k))
+    go (no n) r =
+        let m : k ≡ z + suc (k - suc z) = omega arith in
+        let same : (cond (P k) 1 0 * 2 ^ k + setOf P k) / 2 ^ z % 2 ≡ setOf P k / 2 ^ z % 2 =
+        ap (λ (x : ℕ). (cond (P k) 1 0 * 2 ^ x + setOf P k) / 2 ^ z % 2) m ∙ above (cond (P k) 1 0) (k - suc z) z (setOf P k) in
+        ap (λ (x : ℕ). eqb x 1) same ∙ r (omega arith)
