@@ -7,10 +7,14 @@ use native.Mathlib.Decide.{decLt}
 use native.Mathlib.Omega.{arith}
 use lib.ListN.{length, length-append}
 use Rattle.book.specs.Tables.{Tables}
-use Rattle.machine.specs.Machine.{Reaches}
+use Rattle.book.specs.TablesLaws.{InRange}
+use Rattle.machine.specs.Machine.{Steps, Terminals, none, more, Reaches}
+use Rattle.machine.specs.MachineLaws.{_⊕_, taken-terminals}
 use Rattle.walk.specs.Cost.{limit, Exact}
 use Rattle.walk.specs.Order.{Before, differs, agrees, Better}
 use Rattle.walk.specs.Answer.{Sentence, Answer}
+use Rattle.walk.specs.Walk.{Gets}
+use Rattle.walk.specs.WalkLaws.{gets-starts, gets-runs, reaches-after}
 
 -- u begins a shortest word of P, with r symbols still to come, and every shortest word that begins otherwise is later
 pub record Chosen (rank : ℕ → ℕ) (P : List ℕ → Type 0) (u : List ℕ) (r : ℕ) : Type 0 where
@@ -69,3 +73,49 @@ module _ {rank : ℕ → ℕ} {P : List ℕ → Type 0} where
 
 pub chosen-answer : {rank : ℕ → ℕ} {B : Tables} {z s : ℕ} {u : List ℕ} → Chosen rank (λ w. Reaches B w z s) u 0 → length u ≤ limit → Answer rank B s z (Sentence u)
 chosen-answer c h = let (p, f) = chosen-best c in (p, h, f)
+
+-- ---- one symbol, by what can be reached from the stack after those chosen so far
+-- the machine has this stack once it has taken in u, whatever follows
+abbrev pub After : Tables → List ℕ → List ℕ → Type 0
+After B u st = (rest : List ℕ) → Steps B (0 ∷ []) (u ++ rest) st rest
+
+-- some word of at most r symbols that begins with x, or is empty before x, brings s on top of the stack with z next
+pub record Within (B : Tables) (s z : ℕ) (st : List ℕ) (x r : ℕ) : Type 0 where
+  pub word : List ℕ
+  pub short : length word ≤ r
+  pub gets : Gets B s z st x word
+
+terminal-at : {B : Tables} (u : List ℕ) (x : ℕ) (v : List ℕ) → Terminals B (u ++ (x ∷ v)) → x < B .terminals
+terminal-at [] x v (more l h t) = h
+terminal-at (a ∷ u) x v (more l h t) = terminal-at u x v t
+
+module _ {rank : ℕ → ℕ} {B : Tables} {s z r : ℕ} {u st : List ℕ} (i : InRange B) (c : Chosen rank (λ w. Reaches B w z s) u (suc r)) (t : After B u st) where
+  within-goes-on : (x : ℕ) → Within B s z st x (suc r) → (v : List ℕ) × (length v ≡ r) × Reaches B (u ++ (x ∷ v)) z s
+  within-goes-on x k = go (k .word) (k .short) (k .gets)
+    where
+      go : (w : List ℕ) → length w ≤ suc r → Gets B s z st x w → (v : List ℕ) × (length v ≡ r) × Reaches B (u ++ (x ∷ v)) z s
+      go [] l g =
+          let (below, run) = gets-runs g [] in
+          let all = t (z ∷ []) ⊕ run in
+          let reach : Reaches B u z s = record { terminals = taken-terminals i u all; below = below; run = all } in
+          absurd (omega (arith, c .shortest u reach))
+      go (y ∷ v) l g =
+          let (rest, e) = gets-starts g [] in
+          let same : y ≡ x = cc in
+          let reach = reaches-after i u t x v .1 (rw same at g) in
+          (v, omega (arith, c .shortest (u ++ (x ∷ v)) reach, length-append u (x ∷ v)), reach)
+
+  -- x is right where a word goes on with it and with no symbol before it in order
+  pub chosen-next : (x : ℕ) → Within B s z st x (suc r) → ((y : ℕ) → Within B s z st y (suc r) → (y ≡ x) ⊎ (rank x < rank y))
+      → Chosen rank (λ w. Reaches B w z s) (u ++ (x ∷ [])) r
+  chosen-next x k f =
+      chosen-more x c (within-goes-on x k)
+      (λ y v l p. f y (record { word = y ∷ v; short = omega arith; gets = reaches-after i u t y v .0 p }))
+
+  -- and there is such a symbol
+  pub chosen-some : (x : ℕ) × (x < B .terminals) × Within B s z st x (suc r)
+  chosen-some = some (c .goes-on .0) (c .goes-on .1) (c .goes-on .2)
+    where
+      some : (v : List ℕ) → length v ≡ suc r → Reaches B (u ++ v) z s → (x : ℕ) × (x < B .terminals) × Within B s z st x (suc r)
+      some [] l p = absurd (omega arith)
+      some (x ∷ v) l p = (x, terminal-at u x v (p .terminals), record { word = x ∷ v; short = omega arith; gets = reaches-after i u t x v .0 p })
