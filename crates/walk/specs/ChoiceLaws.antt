@@ -1,6 +1,6 @@
 -- The sentence can be chosen symbol by symbol: the lowest with which a shortest word can go on. Assumes nothing.
 use mathlib.Core.List.{List, [], _∷_, _++_, append-assoc, append-nil}
-use mathlib.Core.Logic.{_⊎_, inl, inr, ⊎-elim, _≢_}
+use mathlib.Core.Logic.{_⊎_, inl, inr, ⊎-elim, _≢_, _↔_}
 use mathlib.Core.Path.{_≡_, refl, ap, sym, _∙_}
 use Prim.Native.Nat.{ℕ, suc, _+_, _≤_, _<_}
 use native.Mathlib.Decide.{decLt}
@@ -13,6 +13,8 @@ use Rattle.machine.specs.MachineLaws.{_⊕_, taken-terminals}
 use Rattle.walk.specs.Cost.{limit, Exact}
 use Rattle.walk.specs.Order.{Before, differs, agrees, Better}
 use Rattle.walk.specs.Answer.{Sentence, Answer}
+use Rattle.walk.specs.Claims.{Claims, ClaimedGets, Closed, Witnessed}
+use Rattle.walk.specs.ClaimsLaws.{closed-gets-below, witnessed-gets-above}
 use Rattle.walk.specs.Walk.{Gets}
 use Rattle.walk.specs.WalkLaws.{gets-starts, gets-runs, reaches-after}
 
@@ -85,8 +87,8 @@ pub record Within (B : Tables) (s z : ℕ) (st : List ℕ) (x r : ℕ) : Type 0 
   pub short : length word ≤ r
   pub gets : Gets B s z st x word
 
-terminal-at : {B : Tables} (u : List ℕ) (x : ℕ) (v : List ℕ) → Terminals B (u ++ (x ∷ v)) → x < B .terminals
-terminal-at [] x v (more l h t) = h
+terminal-at : {B : Tables} (u : List ℕ) (x : ℕ) (v : List ℕ) → Terminals B (u ++ (x ∷ v)) → (1 ≤ x) × (x < B .terminals)
+terminal-at [] x v (more l h t) = (l, h)
 terminal-at (a ∷ u) x v (more l h t) = terminal-at u x v t
 
 module _ {rank : ℕ → ℕ} {B : Tables} {s z r : ℕ} {u st : List ℕ} (i : InRange B) (c : Chosen rank (λ w. Reaches B w z s) u (suc r)) (t : After B u st) where
@@ -113,9 +115,17 @@ module _ {rank : ℕ → ℕ} {B : Tables} {s z r : ℕ} {u st : List ℕ} (i : 
       (λ y v l p. f y (record { word = y ∷ v; short = omega arith; gets = reaches-after i u t y v .0 p }))
 
   -- and there is such a symbol
-  pub chosen-some : (x : ℕ) × (x < B .terminals) × Within B s z st x (suc r)
+  pub chosen-some : (x : ℕ) × ((1 ≤ x) × (x < B .terminals)) × Within B s z st x (suc r)
   chosen-some = some (c .goes-on .0) (c .goes-on .1) (c .goes-on .2)
     where
-      some : (v : List ℕ) → length v ≡ suc r → Reaches B (u ++ v) z s → (x : ℕ) × (x < B .terminals) × Within B s z st x (suc r)
+      some : (v : List ℕ) → length v ≡ suc r → Reaches B (u ++ v) z s → (x : ℕ) × ((1 ≤ x) × (x < B .terminals)) × Within B s z st x (suc r)
       some [] l p = absurd (omega arith)
       some (x ∷ v) l p = (x, terminal-at u x v (p .terminals), record { word = x ∷ v; short = omega arith; gets = reaches-after i u t x v .0 p })
+
+-- with exact claims it is enough to look at what they make of the stack
+pub within-claimed : {B : Tables} {claim : Claims} {s z x r : ℕ} {st : List ℕ} → InRange B → Closed B claim → Witnessed B claim → z < B .terminals → r ≤ limit
+    → ((v : ℕ) × (v ≤ r) × ClaimedGets B claim s z st x v) ↔ Within B s z st x r
+within-claimed {B} {s} {z} {x} {r} {st} i k w h l = (
+  λ (v, m, g). ⊎-elim (λ e. absurd (omega (arith, m))) (λ (u, p, e). record { word = u; short = omega (arith, m); gets = p }) (witnessed-gets-above w g),
+  λ t. let (v, g, m) = closed-gets-below i k h (t .gets) in (v, omega (arith, t .short), g),
+)
