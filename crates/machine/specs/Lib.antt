@@ -1,2 +1,9 @@
+pub mod AdmissionLaws
+pub mod DrivingLaws
 pub mod Machine
 pub mod MachineLaws
+pub mod ReducingLaws
+pub mod Run
+pub mod RunLaws
+pub mod Stack
+pub mod StackLaws

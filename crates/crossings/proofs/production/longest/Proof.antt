@@ -1,0 +1,43 @@
+-- `crossings::production::longest` meets its contract. Assumes nothing.
+use native.Mathlib.Omega.{arith}
+use mathlib.Core.Path.{_≡_, refl, _∙_, sym}
+use Prim.Native.Nat.{ℕ, _+_, _*_, _-_, _≤_, _<_}
+use native.Mathlib.Nat.{le-antisymm}
+use Rattle.book.specs.Tables.{tablesOf}
+use Rattle.crossings.specs.Pass.{Longest}
+use Rattle.crossings.specs.CrossingsLaws.{longest-more}
+use borrow.Author.Needs.{needs}
+use Rattle.crossings.proofs.production.longest.Statement.{statement}
+use Rattle.crossings.proofs.production.longest.Tie as tie
+use Rattle.crossings.proofs.production.longest.Reads as reads
+use Rattle.crossings.proofs.production.longest.Lts as lts
+use Rattle.crossings.proofs.production.longer.Reads as longer-reads
+
+abbrev Inv-loop : tie.InvT-loop
+Inv-loop cells d q n r₀ p₀ r p = (p ≤ n) × Longest (tablesOf cells) q p r
+
+abbrev μ-loop : tie.MeasureT-loop
+μ-loop cells d q n r₀ p₀ r p = n - p
+
+loop-holds : tie.Need-loop-holds Inv-loop μ-loop
+loop-holds c = (omega arith, record { bound = λ p g h e. absurd (omega arith) })
+
+longer-requires : tie.Need-longer-requires Inv-loop μ-loop
+longer-requires c κs = (c .before .before .before .pre .0, (c .before .before .before .pre .1, c .loop-test .taken))
+
+add-p : tie.Need-add-p Inv-loop μ-loop
+add-p c = search needs
+
+loop-less : tie.Need-loop-less Inv-loop μ-loop
+loop-less c = search needs
+
+loop-again : tie.Need-loop-again Inv-loop μ-loop
+loop-again c = (omega arith, longest-more (c .before .before .loop .inv .1) (c .longer .ensures))
+
+returns : tie.Need-returns Inv-loop μ-loop
+returns c = rw (le-antisymm (c .before .loop .inv .0) (c .loop-test .left)) at (c .before .loop .inv .1)
+
+pub longest-spec : {M : Type 1} → statement M
+longest-spec =
+    tie.close
+    (tie.spec Inv-loop μ-loop loop-holds longer-requires add-p loop-less loop-again returns)

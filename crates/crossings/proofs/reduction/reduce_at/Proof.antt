@@ -1,0 +1,71 @@
+-- `crossings::reduction::reduce_at` meets its contract. Assumes nothing.
+use native.Mathlib.Omega.{arith}
+use mathlib.Core.Path.{_≡_, refl, _∙_, sym}
+use Prim.Native.Nat.{ℕ, _+_, _*_, _-_, _≤_, _<_}
+use Rattle.layers.specs.ActionLaws.{reduce-below}
+use Rattle.crossings.specs.PassLaws.{pass-none}
+use Rattle.crossings.specs.ReductionLaws.{settled-far, settled-error, settled-accept, settled-shift}
+use borrow.Author.Needs.{needs}
+use Rattle.crossings.proofs.reduction.reduce_at.Statement.{statement}
+use Rattle.crossings.proofs.reduction.reduce_at.Tie as tie
+use Rattle.crossings.proofs.reduction.reduce_at.Reads as reads
+use Rattle.crossings.proofs.reduction.reduce_at.Lts as lts
+use Rattle.book.proofs.action_at.Reads as action-at-reads
+use Rattle.crossings.proofs.reduction.cross.Reads as cross-reads
+
+returns : tie.Need-returns
+returns c = pass-none (c .before .before .before .pre .1 .1 .0) (settled-far (c .before .before .before .pre .0) _ _ _ _ _ _ (c .before .before .before .pre .1 .1 .0) (c .before .before .before .pre .1 .0 .1) (c .before .before .before .pre .1 .0 .3) (c .if1 .taken))
+
+action-at-requires : tie.Need-action-at-requires
+action-at-requires c κs = search needs
+
+enum-known-p : tie.Need-enum-known-p
+enum-known-p c = search needs
+
+cast-cross : tie.Need-cast-cross
+cast-cross c = search needs
+
+cross-requires : tie.Need-cross-requires
+cross-requires c κs = (c .before .before .before .before .before .before .before .before .pre .0, ((c .before .before .before .before .before .before .before .before .pre .1 .0 .0, c .before .before .before .before .before .before .before .before .pre .1 .0 .1, c .before .before .before .before .before .before .before .before .pre .1 .0 .3, reduce-below _ _ (c .before .before .before .before .before .before .before .before .pre .0) (sym (c .before .before .before .before .action-at .ensures) ∙ c .before .before .p .given .1)), (c .before .before .before .before .before .before .before .before .pre .1 .1 .0, ((sym (c .before .before .before .before .action-at .ensures) ∙ c .before .before .p .given .1), c .before .before .before .before .before .before .before .before .pre .1 .1 .1))))
+
+enum-told : tie.Need-enum-told
+enum-told c = search needs
+
+enum-told-2 : tie.Need-enum-told-2
+enum-told-2 c = search needs
+
+enum-told-3 : tie.Need-enum-told-3
+enum-told-3 c = search needs
+
+same-length : tie.Need-same-length
+same-length c = search needs
+
+returns-2 : tie.Need-returns-2
+returns-2 c = c .before .before .cross .ensures
+
+returns-3 : tie.Need-returns-3
+returns-3 c = pass-none (c .before .before .before .before .before .before .pre .1 .1 .0) (settled-error (c .before .before .before .before .before .before .pre .0) _ _ _ _ _ _ (c .before .before .before .before .before .before .pre .1 .1 .0) (c .before .before .before .before .before .before .pre .1 .0 .1) (c .before .before .before .before .before .before .pre .1 .0 .3) (c .before .before .action-at .ensures) (c .enum-told .given .1))
+
+returns-4 : tie.Need-returns-4
+returns-4 c = pass-none (c .before .before .before .before .before .before .pre .1 .1 .0) (settled-accept (c .before .before .before .before .before .before .pre .0) _ _ _ _ _ _ (c .before .before .before .before .before .before .pre .1 .1 .0) (c .before .before .before .before .before .before .pre .1 .0 .1) (c .before .before .before .before .before .before .pre .1 .0 .3) (c .before .before .action-at .ensures) (c .enum-told2 .given .1))
+
+returns-5 : tie.Need-returns-5
+returns-5 c = pass-none (c .before .before .before .before .before .before .pre .1 .1 .0) (settled-shift (c .before .before .before .before .before .before .pre .0) _ _ _ _ _ _ (c .before .before .before .before .before .before .pre .1 .1 .0) (c .before .before .before .before .before .before .pre .1 .0 .1) (c .before .before .before .before .before .before .pre .1 .0 .3) (c .before .before .action-at .ensures) (c .enum-told3 .given .1))
+
+pub reduce-at-spec : {M : Type 1} → statement M
+reduce-at-spec =
+    tie.close
+    (tie.spec
+    returns
+    action-at-requires
+    enum-known-p
+    cast-cross
+    cross-requires
+    enum-told
+    enum-told-2
+    enum-told-3
+    same-length
+    returns-2
+    returns-3
+    returns-4
+    returns-5)

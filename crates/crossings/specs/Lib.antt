@@ -1,0 +1,5 @@
+pub mod Crossings
+pub mod Pass
+pub mod PassLaws
+pub mod ReductionLaws
+pub mod CrossingsLaws

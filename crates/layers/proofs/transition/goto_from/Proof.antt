@@ -1,0 +1,56 @@
+-- `layers::transition::goto_from` meets its contract. Assumes nothing.
+use Rattle.layers.specs.Crossing.{claimIn}
+use mathlib.Core.Path.{_≡_, refl, _∙_, sym}
+use Prim.Native.Nat.{ℕ, _+_, _*_, _-_, _≤_, _<_}
+use native.Mathlib.Omega.{arith}
+use mathlib.Core.Path.{_≡_, refl, _∙_}
+use Prim.Native.Nat.{_*_, _-_, _≤_}
+use mathlib.Core.Path.{sym}
+use Rattle.layers.specs.CrossingLaws.{goto-least, crossing-row-below}
+use Rattle.layers.specs.LengthenLaws.{step-goto, step-no-goto}
+use borrow.Author.Needs.{needs}
+use Rattle.layers.proofs.transition.goto_from.Statement.{statement}
+use Rattle.layers.proofs.transition.goto_from.Tie as tie
+use Rattle.layers.proofs.transition.goto_from.Reads as reads
+use Rattle.layers.proofs.transition.goto_from.Lts as lts
+use Rattle.book.proofs.goto_at.Reads as goto-at-reads
+use Rattle.layers.proofs.row.relax.Reads as relax-reads
+use Rattle.layers.proofs.row.turn_on.Reads as turn-on-reads
+use Rattle.layers.proofs.transition.crossing_row.Reads as crossing-row-reads
+
+goto-at-requires : tie.Need-goto-at-requires
+goto-at-requires c κs = search needs
+
+returns : tie.Need-returns
+returns c = (c .before .before .before .before .pre .1 .1, step-no-goto (c .before .before .before .before .pre .0) (claimIn (c .before .before .before .before .args .d) (c .before .before .before .before .args .table .now)) (c .before .before .before .before .args .q) (c .before .before .before .before .args .a) (c .before .before .before .before .args .v) (c .before .before .before .before .args .x) (sym (c .before .goto-at .ensures) ∙ c .if1 .taken))
+
+sub-g : tie.Need-sub-g
+sub-g c = search needs
+
+cast-g : tie.Need-cast-g
+cast-g c = search needs
+
+crossing-row-requires : tie.Need-crossing-row-requires
+crossing-row-requires c κs = search needs
+
+turn-on-requires : tie.Need-turn-on-requires
+turn-on-requires c κs = (c .before .before .before .before .before .before .before .pre .1 .1, omega (arith, goto-least (c .before .before .before .before .before .before .before .pre .0) (c .before .before .before .before .before .before .before .args .q) (c .before .before .before .before .before .before .before .args .x) (c .before .before .before .before .before .before .before .pre .1 .0 .0) (c .before .before .before .before .before .before .before .pre .1 .0 .2), c .before .before .before .before .goto-at .ensures, c .before .before .before .before .before .before .before .pre .0 .small .states))
+
+relax-requires : tie.Need-relax-requires
+relax-requires c κs = ((omega (arith, goto-least (c .before .before .before .before .before .before .before .before .before .pre .0) (c .before .before .before .before .before .before .before .before .before .args .q) (c .before .before .before .before .before .before .before .before .before .args .x) (c .before .before .before .before .before .before .before .before .before .pre .1 .0 .0) (c .before .before .before .before .before .before .before .before .before .pre .1 .0 .2), c .before .before .before .before .before .before .goto-at .ensures, c .before .before .before .before .before .before .before .before .before .pre .0 .small .states), c .before .before .before .before .before .before .before .before .before .pre .0 .small .terminals, c .before .turn-on .ensures .0 .size), omega (arith, c .before .before .before .before .before .before .before .before .before .pre .1 .0 .3, c .before .before .before .before .crossing-row .ensures, crossing-row-below (c .before .before .before .before .before .before .before .before .before .args .d) (c .before .before .before .before .before .before .before .before .before .args .q) (c .before .before .before .before .before .before .before .before .before .args .x) (c .before .before .before .before .before .before .before .before .before .args .a) (c .before .before .before .before .before .before .before .before .before .pre .1 .0 .0) (c .before .before .before .before .before .before .before .before .before .pre .1 .0 .2) (c .before .before .before .before .before .before .before .before .before .pre .1 .0 .1)))
+
+returns-2 : tie.Need-returns-2
+returns-2 c = (record { size = c .relax .ensures .0; count = c .before .before .turn-on .ensures .0 .count }, step-goto (c .before .before .before .before .before .before .before .before .before .before .pre .0) _ _ _ _ _ _ _ _ _ _ (omega (arith, c .before .before .before .before .before .before .before .goto-at .ensures)) (c .before .before .before .before .before .crossing-row .ensures) (c .before .before .turn-on .ensures .1) (c .relax .ensures .1))
+
+pub goto-from-spec : {M : Type 1} → statement M
+goto-from-spec =
+    tie.close
+    (tie.spec
+    goto-at-requires
+    returns
+    sub-g
+    cast-g
+    crossing-row-requires
+    turn-on-requires
+    relax-requires
+    returns-2)

@@ -1,0 +1,64 @@
+-- `layers::transition::opens` meets its contract. Assumes nothing.
+use native.Mathlib.Omega.{arith}
+use mathlib.Core.Path.{_≡_, refl, _∙_}
+use Prim.Native.Nat.{_*_, _-_, _≤_}
+use mathlib.Core.Path.{sym}
+use mathlib.Core.Bool.{false≢true}
+use borrow.Author.Tests.{eqb-false}
+use Rattle.layers.specs.ActionLaws.{reduce-below, reduce-unopened, error-unopened, accept-unopened}
+use borrow.Author.Needs.{needs}
+use Rattle.layers.proofs.transition.opens.Statement.{statement}
+use Rattle.layers.proofs.transition.opens.Tie as tie
+use Rattle.layers.proofs.transition.opens.Reads as reads
+use Rattle.layers.proofs.transition.opens.Lts as lts
+use Rattle.book.proofs.action_at.Reads as action-at-reads
+use Rattle.book.proofs.production_length.Reads as production-length-reads
+
+action-at-requires : tie.Need-action-at-requires
+action-at-requires c κs = search needs
+
+enum-told : tie.Need-enum-told
+enum-told c = search needs
+
+enum-known-p : tie.Need-enum-known-p
+enum-known-p c = search needs
+
+cast-production-length : tie.Need-cast-production-length
+cast-production-length c = search needs
+
+production-length-requires : tie.Need-production-length-requires
+production-length-requires c κs = (c .before .before .before .before .before .pre .0, reduce-below _ _ (c .before .before .before .before .before .pre .0) (sym (c .before .before .before .action-at .ensures) ∙ c .before .p .given .1))
+
+enum-told-2 : tie.Need-enum-told-2
+enum-told-2 c = search needs
+
+enum-told-3 : tie.Need-enum-told-3
+enum-told-3 c = search needs
+
+returns : tie.Need-returns
+returns c = λ e. absurd (false≢true (sym e))
+
+returns-2 : tie.Need-returns-2
+returns-2 c = λ e. reduce-unopened _ _ _ (c .before .before .before .before .action-at .ensures) (c .before .before .p .given .1) (λ z. eqb-false _ _ e (c .production-length .ensures ∙ z))
+
+returns-3 : tie.Need-returns-3
+returns-3 c = λ e. error-unopened _ _ _ (c .before .before .action-at .ensures) (c .enum-told2 .given .1)
+
+returns-4 : tie.Need-returns-4
+returns-4 c = λ e. accept-unopened _ _ _ (c .before .before .action-at .ensures) (c .enum-told3 .given .1)
+
+pub opens-spec : {M : Type 1} → statement M
+opens-spec =
+    tie.close
+    (tie.spec
+    action-at-requires
+    enum-told
+    enum-known-p
+    cast-production-length
+    production-length-requires
+    enum-told-2
+    enum-told-3
+    returns
+    returns-2
+    returns-3
+    returns-4)

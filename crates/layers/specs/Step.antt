@@ -1,0 +1,43 @@
+-- A table whose entries only fall: what a pass that lowers entries to candidates does to it, and the candidates of a longer layer. Assumes nothing.
+use mathlib.Core.List.{List}
+use mathlib.Core.Logic.{_⊎_}
+use mathlib.Core.Path.{_≡_}
+use Prim.Native.Nat.{ℕ, suc, _+_, _≤_, _<_}
+use lib.ListN.{getD}
+use Rattle.book.specs.Tables.{Tables}
+use Rattle.book.specs.declared.Action.the-variants.{Shift}
+use Rattle.book.specs.declared.Sizes.{Sizes}
+use Rattle.walk.specs.Cost.{unreached, plus}
+use Rattle.walk.specs.Claims.{Claims}
+
+-- `P q z w` says that w is a candidate for the entry (q, z). Each entry of `new` is the least of what it was and its candidates
+-- below unreached
+pub record Step (P : ℕ → ℕ → ℕ → Type 0) (old new : ℕ → ℕ → ℕ) : Type 0 where
+  pub fall : (q z : ℕ) → z < 32 → new q z ≤ old q z
+  pub below : (q z w : ℕ) → P q z w → z < 32 → w < unreached → new q z ≤ w
+  pub attained : (q z : ℕ) → z < 32 → (new q z ≡ old q z) ⊎ P q z (new q z)
+
+-- the candidates of the turns below i
+abbrev pub Upto : (ℕ → ℕ → ℕ → ℕ → Type 0) → ℕ → ℕ → ℕ → ℕ → Type 0
+Upto P i q z w = (j : ℕ) × (j < i) × P j q z w
+
+-- turn z of a pass over row g: v, or the sum of v and what another row has for z
+abbrev pub Level : ℕ → ℕ → ℕ → ℕ → ℕ → ℕ → Type 0
+Level g v j q z w = (q ≡ g) × (z ≡ j) × (w ≡ v)
+
+abbrev pub Relaxed : ℕ → List ℕ → ℕ → ℕ → ℕ → ℕ → ℕ → ℕ → Type 0
+Relaxed g row start v j q z w = (q ≡ g) × (z ≡ j) × (w ≡ plus v (getD row (start + j) 0))
+
+-- from (q₁, b), reached at the cost v: by the shift of b, and by the goto under X
+abbrev pub ByShift : Sizes → Tables → ℕ → ℕ → ℕ → ℕ → ℕ → ℕ → Type 0
+ByShift d B q₁ b v q z w = (B .act q₁ b ≡ Shift q) × (z < d .t) × (w ≡ plus v 1)
+
+abbrev pub ByGoto : Sizes → Tables → Claims → ℕ → ℕ → ℕ → ℕ → ℕ → ℕ → ℕ → Type 0
+ByGoto d B claim q₁ b v X q z w = (B .goto q₁ X ≡ suc q) × (z < d .t) × (w ≡ plus v (claim q₁ X b z))
+
+abbrev pub Leaves : Sizes → Tables → Claims → ℕ → ℕ → ℕ → ℕ → ℕ → ℕ → Type 0
+Leaves d B claim q₁ b v q z w = ByShift d B q₁ b v q z w ⊎ Upto (ByGoto d B claim q₁ b v) (d .n) q z w
+
+-- from every terminal of a state in a layer
+abbrev pub LeavesState : Sizes → Tables → Claims → (ℕ → ℕ → ℕ) → ℕ → ℕ → ℕ → ℕ → Type 0
+LeavesState d B claim L q₁ = Upto (λ b. Leaves d B claim q₁ b (L q₁ b)) (d .t)

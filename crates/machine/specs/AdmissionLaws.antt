@@ -1,0 +1,97 @@
+-- Laws of what is refused before a run. Assumes nothing.
+use mathlib.Core.Path.{_≡_, refl, sym, _∙_, ap}
+use mathlib.Core.Bool.{Bool, true, false, cond, and-false, _&&_}
+use mathlib.Core.List.{List, [], _∷_}
+use Prim.Native.Nat.{ℕ, zero, suc, _+_, _≤_, _<_}
+use native.Mathlib.Decide.{decLe, decLt}
+use native.Mathlib.Nat.{not-suc-le-zero}
+use native.Mathlib.Numerals.{add-one}
+use native.Mathlib.Omega.{arith}
+use borrow.Author.Tests.{lt-ltb, le-ltb, le-leb, lt-leb}
+use lib.Dec.{ltb, leb}
+use lib.ListN.{length, getD, drop, drop-of-length-le}
+use lib.Seq.{drop-cons}
+use Rattle.number.specs.declared.Refusal.{Refusal}
+use Rattle.book.specs.Book.{ofCells, checked}
+use Rattle.book.specs.Tables.{tablesOf}
+use Rattle.book.specs.declared.Checked.{Checked}
+use Rattle.book.specs.declared.Checked.the-variants.{Valid, Refused as Faulty}
+use Rattle.book.specs.declared.Sizes.{Sizes}
+use Rattle.machine.specs.MachineLaws.{clash}
+use Rattle.machine.specs.Run.{runs, sound, admitted, delivered, running}
+use Rattle.machine.specs.declared.Ran.{Ran}
+use Rattle.machine.specs.declared.Ran.the-variants.{Refused}
+
+-- ---- the first symbol that is refused
+module _ (t : ℕ) (w : List ℕ) (i : ℕ) where
+  pub sound-more : i < length w → 1 ≤ getD w i 0 → getD w i 0 < t → sound t (drop i w) ≡ suc (sound t (drop (i + 1) w))
+  sound-more h l b = rw (add-one, drop-cons w i 0 h, le-leb 1 (getD w i 0) l, lt-ltb (getD w i 0) t b)
+
+  pub sound-zero : i < length w → getD w i 0 ≡ 0 → sound t (drop i w) ≡ 0
+  sound-zero h l = rw (drop-cons w i 0 h, lt-leb 1 (getD w i 0) (omega arith))
+
+  pub sound-high : i < length w → t ≤ getD w i 0 → sound t (drop i w) ≡ 0
+  sound-high h b = rw (drop-cons w i 0 h, le-ltb (getD w i 0) t b, and-false)
+
+  pub sound-none : length w ≤ i → sound t (drop i w) ≡ 0
+  sound-none h = rw (drop-of-length-le w h)
+
+-- a sentence with none has terminals only
+pub sound-head : (t a : ℕ) (w : List ℕ) → sound t (a ∷ w) ≡ suc (length w) → (1 ≤ a) × (a < t) × (sound t w ≡ length w)
+sound-head t a w e = go (decLe 1 a) (decLt a t)
+  where
+    go : Dec (1 ≤ a) → Dec (a < t) → (1 ≤ a) × (a < t) × (sound t w ≡ length w)
+    go (yes l) (yes b) = (l, b, omega (arith, rw (le-leb 1 a l, lt-ltb a t b) at e))
+    go (yes l) (no b) = absurd (omega (arith, rw (le-ltb a t (omega arith), and-false) at e))
+    go (no l) b = absurd (omega (arith, rw (lt-leb 1 a (omega arith)) at e))
+
+pub sound-at : (t : ℕ) (w : List ℕ) (i : ℕ) → sound t w ≡ length w → i < length w → getD w i 0 < t
+sound-at t [] i e h = absurd (not-suc-le-zero h)
+sound-at t (a ∷ w) zero e h = sound-head t a w e .1
+sound-at t (a ∷ w) (suc i) e h = sound-at t w i (sound-head t a w e .2) (omega arith)
+
+sound-most : (t : ℕ) (w : List ℕ) → sound t w ≤ length w
+sound-most t [] = omega arith
+sound-most t (a ∷ w) = go (leb 1 a && ltb a t) (sound-most t w)
+  where
+    go : (b : Bool) → sound t w ≤ length w → cond b (suc (sound t w)) 0 ≤ suc (length w)
+    go true h = omega arith
+    go false h = omega arith
+
+-- ---- what is admitted
+pub record Admitted (w : List ℕ) (z room : ℕ) (found : Checked) (d : Sizes) : Type 0 where
+  pub book : found ≡ Valid d
+  pub few : length w ≤ 1000
+  pub terminals : sound (d .t) w ≡ length w
+  pub lookahead : z < d .t
+  pub enough : 1024 ≤ room
+
+pub admitted-valid : (w : List ℕ) (z room : ℕ) (found : Checked) (d : Sizes) → admitted w z room found ≡ Valid d → Admitted w z room found d
+unfolding admitted
+admitted-valid w z room (Faulty r) d e = absurd (clash cc)
+admitted-valid w z room (Valid x) d e = go (decLe (length w) 1000) (decLe (length w) (sound (x .t) w)) (decLt z (x .t)) (decLe 1024 room)
+  where
+    go : Dec (length w ≤ 1000) → Dec (length w ≤ sound (x .t) w) → Dec (z < x .t) → Dec (1024 ≤ room) → Admitted w z room (Valid x) d
+    go (no h) s l r = let f = rw (lt-ltb 1000 (length w) (omega arith)) at e in absurd (clash cc)
+    go (yes h) (no s) l r =
+        let f = rw (le-ltb 1000 (length w) h, lt-ltb (sound (x .t) w) (length w) (omega arith)) at e in absurd (clash cc)
+    go (yes h) (yes s) (no l) r =
+        let f = rw (le-ltb 1000 (length w) h, le-ltb (sound (x .t) w) (length w) s, le-leb (x .t) z (omega arith)) at e in absurd (clash cc)
+    go (yes h) (yes s) (yes l) (no r) =
+        let f = rw (le-ltb 1000 (length w) h, le-ltb (sound (x .t) w) (length w) s, lt-leb (x .t) z l, lt-ltb room 1024 (omega arith)) at e in
+        absurd (clash cc)
+    go (yes h) (yes s) (yes l) (yes r) =
+        let f = rw (le-ltb 1000 (length w) h, le-ltb (sound (x .t) w) (length w) s, lt-leb (x .t) z l, le-ltb room 1024 r) at e in
+        let same : x ≡ d = cc in
+        rw (← same) (record { book = refl; few = h; terminals = omega (arith, sound-most (x .t) w); lookahead = l; enough = r })
+
+-- ---- the call
+module _ (cells w : List ℕ) (z : ℕ) (lent : List ℕ) where
+  pub run-refused : (r : Refusal) → admitted w z (length lent) (checked (ofCells cells)) ≡ Faulty r → (Refused r, lent) ≡ running cells w z lent
+  unfolding running
+  run-refused r e = rw e
+
+  pub run-admitted : (d : Sizes) (o : Ran × List ℕ) → admitted w z (length lent) (checked (ofCells cells)) ≡ Valid d
+      → o ≡ delivered lent (runs (tablesOf cells) z w 0 (0 ∷ [])) → o ≡ running cells w z lent
+  unfolding running
+  run-admitted d o e f = rw e f

@@ -1,0 +1,66 @@
+// What is refused before a run.
+ghost use mathlib.Core.Path.{_≡_};
+ghost use Rattle.book.specs.Book.{ofCells, checked};
+ghost use Rattle.book.specs.declared.Checked.the-variants.{Valid};
+ghost use Rattle.machine.specs.Run.{sound, refused, admitted};
+use book::Checked;
+use book::Sizes;
+use crate::DEPTH;
+use number::Refusal;
+
+// How many symbols a sentence can have.
+const LONGEST: usize = 1000;
+
+fn refuse(number: u8, place: usize) -> Checked
+    ensures { λ r. ⌜ r ≡ refused number place ⌝ }
+{
+    Checked::Refused(Refusal { number, place })
+}
+
+// The index of the first symbol that is 0, or t or more, or the length where there is none.
+fn first_unsound(sentence: &[u8], t: usize) -> usize
+    ensures { λ r. ⌜ r ≡ sound t (now (sentence .entry)) ⌝ }
+{
+    let mut i: usize = 0;
+    while i < sentence.len() {
+        let a = sentence[i] as usize;
+        if a == 0 {
+            return i;
+        }
+        if a >= t {
+            return i;
+        }
+        i += 1;
+    }
+    i
+}
+
+// The refusals of sentence, lookahead and stack cells for a book of the sizes d, which are handed back.
+fn admit_input(d: Sizes, sentence: &[u8], lookahead: u16, room: usize) -> Checked
+    ensures { λ r. ⌜ r ≡ admitted (now (sentence .entry)) lookahead room (Valid d) ⌝ }
+{
+    if sentence.len() > LONGEST {
+        return refuse(8, 0);
+    }
+    let i = first_unsound(sentence, d.t);
+    if i < sentence.len() {
+        return refuse(7, i);
+    }
+    if lookahead as usize >= d.t {
+        return refuse(11, 0);
+    }
+    if room < DEPTH {
+        return refuse(13, 0);
+    }
+    Checked::Valid(d)
+}
+
+// The sizes of the book, or the first refusal.
+pub fn admit(cells: &[u16], sentence: &[u8], lookahead: u16, room: usize) -> Checked
+    ensures { λ r. ⌜ r ≡ admitted (now (sentence .entry)) lookahead room (checked (ofCells (now (cells .entry)))) ⌝ }
+{
+    match book::check(cells) {
+        Checked::Refused(r) => Checked::Refused(r),
+        Checked::Valid(d) => admit_input(d, sentence, lookahead, room),
+    }
+}

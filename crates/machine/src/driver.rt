@@ -1,0 +1,94 @@
+// The run, symbol by symbol.
+ghost use mathlib.Core.List.{[], _∷_};
+ghost use mathlib.Core.Path.{_≡_};
+ghost use Prim.Native.Nat.{_≤_, _<_};
+ghost use lib.ListN.{length};
+ghost use Rattle.book.specs.Tables.{tablesOf};
+ghost use Rattle.book.specs.TablesLaws.{Holds};
+ghost use Rattle.machine.specs.Run.{runs, kept, sound, delivered};
+ghost use Rattle.machine.specs.Stack.{stackOf, Stacked, Fed};
+ghost use Rattle.machine.specs.declared.Ran.the-variants.{Ended};
+use book::Sizes;
+use crate::DEPTH;
+use crate::Ending;
+use crate::Entered;
+use crate::Paused;
+use crate::looks::stop_at;
+use crate::reductions::reduce;
+
+// Zeros above the stack.
+fn clear(stack: &mut [u16], depth: usize)
+    requires { ⌜ (depth ≤ 1024) × (1024 ≤ length (now stack)) ⌝ }
+    ensures { λ _. ⌜ now (stack .exit) ≡ kept (stackOf (now (stack .entry)) depth) (now (stack .entry)) ⌝ }
+{
+    let mut i = depth;
+    while i < DEPTH {
+        stack[i] = 0;
+        i += 1;
+    }
+}
+
+// Reduces before a symbol of the sentence and shifts it.
+fn take_in(cells: &[u16], d: Sizes, stack: &mut [u16], depth: usize, a: u16, taken: usize) -> Entered
+    requires { ⌜ Holds d (now cells) ⌝ }
+    requires { ⌜ Stacked (d .s) (now stack) depth ⌝ }
+    requires { ⌜ a < d .t ⌝ }
+    ensures { λ r. ⌜ Fed (tablesOf (now (cells .entry))) (d .s) (now (stack .entry)) (now (stack .exit)) depth a taken r ⌝ }
+{
+    match reduce(cells, d, stack, depth, a, taken) {
+        Paused::Ended(e, n) => Entered::Ended(e, n),
+        Paused::Shift(s, n) => {
+            if n >= DEPTH {
+                return Entered::Ended(Ending::Deep(stop_at(stack, n, a, taken)), n);
+            }
+            stack[n] = s;
+            Entered::Depth(n + 1)
+        }
+    }
+}
+
+// Reduces before the lookahead, when all of the sentence is in.
+fn finish(cells: &[u16], d: Sizes, stack: &mut [u16], depth: usize, z: u16, taken: usize) -> Ending
+    requires { ⌜ Holds d (now cells) ⌝ }
+    requires { ⌜ Stacked (d .s) (now stack) depth ⌝ }
+    requires { ⌜ z < d .t ⌝ }
+    ensures { λ r. ⌜ (Ended r, now (stack .exit)) ≡ delivered (now (stack .entry)) (runs (tablesOf (now (cells .entry))) z [] taken (stackOf (now (stack .entry)) depth)) ⌝ }
+{
+    match reduce(cells, d, stack, depth, z, taken) {
+        Paused::Ended(e, n) => {
+            clear(stack, n);
+            e
+        }
+        Paused::Shift(_, n) => {
+            let stop = stop_at(stack, n, z, taken);
+            clear(stack, n);
+            Ending::Passed(stop)
+        }
+    }
+}
+
+// Runs a sentence that was admitted.
+pub fn drive(cells: &[u16], d: Sizes, sentence: &[u8], z: u16, stack: &mut [u16]) -> Ending
+    requires { ⌜ Holds d (now cells) ⌝ }
+    requires { ⌜ sound (d .t) (now sentence) ≡ length (now sentence) ⌝ }
+    requires { ⌜ z < d .t ⌝ }
+    requires { ⌜ 1024 ≤ length (now stack) ⌝ }
+    ensures { λ r. ⌜ (Ended r, now (stack .exit)) ≡ delivered (now (stack .entry)) (runs (tablesOf (now (cells .entry))) z (now (sentence .entry)) 0 (0 ∷ [])) ⌝ }
+{
+    stack[0] = 0;
+    let mut depth: usize = 1;
+    let mut taken: usize = 0;
+    while taken < sentence.len() {
+        match take_in(cells, d, stack, depth, sentence[taken] as u16, taken) {
+            Entered::Ended(e, n) => {
+                clear(stack, n);
+                return e;
+            }
+            Entered::Depth(n) => {
+                depth = n;
+                taken += 1;
+            }
+        }
+    }
+    finish(cells, d, stack, depth, z, taken)
+}
