@@ -31,9 +31,10 @@ module _ (B : Tables) (a taken depth : ℕ) {S : ℕ} {lent cells : List ℕ} {n
   pub fed-push : {x : ℕ} → shifting x (stackOf cells n) ≡ reducing B a taken 4096 (stackOf lent depth) → Settled S lent cells n → x < S → n < 1024
       → Fed B S lent (set cells n x) depth a taken (Depth (n + 1))
   unfolding runs
-  fed-push {x} h s b l =
-      ((λ z w. rw (← h, le-ltb 1024 (suc (length (stackOf cells n))) (rw stack-length (omega arith)), stack-push cells n x (omega (arith, s .stacked .room)))),
-      push s (omega arith) l b)
+  fed-push {x} h s b l = (
+    (λ z w. rw (← h, le-ltb 1024 (suc (length (stackOf cells n))) (rw stack-length (omega arith)), stack-push cells n x (omega (arith, s .stacked .room)))),
+    push s (omega arith) l b,
+  )
 
 -- ---- the end: what lies after the stack cells is as it was lent
 module _ (B : Tables) (z taken depth : ℕ) {S : ℕ} {lent cells out : List ℕ} {n : ℕ} where

@@ -81,9 +81,9 @@ module _ (B : Tables) (a taken : ℕ) (u : List ℕ) (n : ℕ) where
   after-reducing (suc k) st =
       after-halts st _
       (λ new e.
-        after-unless st (ended (Deep (stopped st a taken)) st) (λ on. reducing B a taken k on) new (ltb 1024 (length new))
-        (done, refl, goes-reduction st new e)
-        (after-step (reduce e) (reducing B a taken k new) (after-reducing k new)))
+      after-unless st (ended (Deep (stopped st a taken)) st) (λ on. reducing B a taken k on) new (ltb 1024 (length new))
+      (done, refl, goes-reduction st new e)
+      (after-step (reduce e) (reducing B a taken k new) (after-reducing k new)))
       (next B st a) refl
 
 -- ---- the symbols: how the run goes on from a stack with v still to come and k taken in
@@ -177,9 +177,10 @@ run-error B w z stop e all t = go (runs B z w 0 (0 ∷ []) .1) (rw e at (run-end
         let looked : z ∷ [] ≡ stop .symbol ∷ x .rest = rw (all, drop-length) at (x .looked) in
         let is : stop .symbol ≡ z = cc in
         let top : stop .state ≡ q = x .top in
-        rw top
-        (record { terminals = t; below = st; run = rw (all, drop-length) at (x .run) },
-        next-fail B q z st (rw is at (x .move)))
+        rw top (
+          record { terminals = t; below = st; run = rw (all, drop-length) at (x .run) },
+          next-fail B q z st (rw is at (x .move)),
+        )
 
 -- ---- what the call answers, of the unlimited machine
 pub record Called (cells w : List ℕ) (z : ℕ) (lent : List ℕ) (e : Ending) : Type 0 where

@@ -3,9 +3,9 @@ ghost use mathlib.Core.Path.{_≡_};
 ghost use Rattle.book.specs.Book.{ofCells, checked};
 ghost use Rattle.book.specs.declared.Checked.the-variants.{Valid};
 ghost use Rattle.machine.specs.Run.{sound, refused, admitted};
+use crate::DEPTH;
 use book::Checked;
 use book::Sizes;
-use crate::DEPTH;
 use number::Refusal;
 
 // How many symbols a sentence can have.

@@ -8,13 +8,13 @@ ghost use Rattle.book.specs.TablesLaws.{Holds};
 ghost use Rattle.machine.specs.Run.{runs, kept, sound, delivered};
 ghost use Rattle.machine.specs.Stack.{stackOf, Stacked, Fed};
 ghost use Rattle.machine.specs.declared.Ran.the-variants.{Ended};
-use book::Sizes;
 use crate::DEPTH;
 use crate::Ending;
 use crate::Entered;
 use crate::Paused;
 use crate::looks::stop_at;
 use crate::reductions::reduce;
+use book::Sizes;
 
 // Zeros above the stack.
 fn clear(stack: &mut [u16], depth: usize)
@@ -29,7 +29,14 @@ fn clear(stack: &mut [u16], depth: usize)
 }
 
 // Reduces before a symbol of the sentence and shifts it.
-fn take_in(cells: &[u16], d: Sizes, stack: &mut [u16], depth: usize, a: u16, taken: usize) -> Entered
+fn take_in(
+    cells: &[u16],
+    d: Sizes,
+    stack: &mut [u16],
+    depth: usize,
+    a: u16,
+    taken: usize,
+) -> Entered
     requires { ⌜ Holds d (now cells) ⌝ }
     requires { ⌜ Stacked (d .s) (now stack) depth ⌝ }
     requires { ⌜ a < d .t ⌝ }

@@ -7,13 +7,13 @@ ghost use Rattle.book.specs.TablesLaws.{Holds};
 ghost use Rattle.machine.specs.Machine.{lands, next};
 ghost use Rattle.machine.specs.Run.{stopped};
 ghost use Rattle.machine.specs.Stack.{stackOf, Stacked, Looked, limited, Turned};
-use book::Action;
-use book::Sizes;
 use crate::DEPTH;
 use crate::Ending;
 use crate::Seen;
 use crate::Stop;
 use crate::Turn;
+use book::Action;
+use book::Sizes;
 
 // Production p, on a stack of as many states as depth says.
 fn reduction(cells: &[u16], d: Sizes, stack: &[u16], depth: usize, p: usize) -> Seen
@@ -84,7 +84,15 @@ fn limit(seen: Seen, stop: Stop, left: usize) -> Turn
 }
 
 // One turn of the reductions before a symbol.
-pub fn turn(cells: &[u16], d: Sizes, stack: &[u16], depth: usize, a: u16, taken: usize, left: usize) -> Turn
+pub fn turn(
+    cells: &[u16],
+    d: Sizes,
+    stack: &[u16],
+    depth: usize,
+    a: u16,
+    taken: usize,
+    left: usize,
+) -> Turn
     requires { ⌜ Holds d (now cells) ⌝ }
     requires { ⌜ Stacked (d .s) (now stack) depth ⌝ }
     requires { ⌜ a < d .t ⌝ }

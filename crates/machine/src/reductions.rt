@@ -6,16 +6,23 @@ ghost use Rattle.book.specs.Tables.{tablesOf};
 ghost use Rattle.book.specs.TablesLaws.{Holds};
 ghost use Rattle.machine.specs.Run.{reducing};
 ghost use Rattle.machine.specs.Stack.{stackOf, Stacked, Held};
-use book::Sizes;
 use crate::Paused;
 use crate::Turn;
 use crate::looks::turn;
+use book::Sizes;
 
 // How many reductions can be done without a shift.
 const REDUCTIONS: usize = 4096;
 
 // Reduces until the symbol is to be shifted or the run ends.
-pub fn reduce(cells: &[u16], d: Sizes, stack: &mut [u16], depth: usize, a: u16, taken: usize) -> Paused
+pub fn reduce(
+    cells: &[u16],
+    d: Sizes,
+    stack: &mut [u16],
+    depth: usize,
+    a: u16,
+    taken: usize,
+) -> Paused
     requires { ⌜ Holds d (now cells) ⌝ }
     requires { ⌜ Stacked (d .s) (now stack) depth ⌝ }
     requires { ⌜ a < d .t ⌝ }

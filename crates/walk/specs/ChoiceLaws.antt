@@ -15,6 +15,7 @@ use Rattle.walk.specs.Order.{Before, differs, agrees, Better}
 use Rattle.walk.specs.Answer.{Sentence, Answer}
 use Rattle.walk.specs.Claims.{Claims, ClaimedGets, Closed, Witnessed}
 use Rattle.walk.specs.ClaimsLaws.{closed-gets-below, witnessed-gets-above}
+use Rattle.walk.specs.ShiftLaws.{Ready, gets-ready}
 use Rattle.walk.specs.Walk.{Gets}
 use Rattle.walk.specs.WalkLaws.{gets-starts, gets-runs, reaches-after}
 
@@ -114,6 +115,10 @@ module _ {rank : ℕ → ℕ} {B : Tables} {s z r : ℕ} {u st : List ℕ} (i : 
       chosen-more x c (within-goes-on x k)
       (λ y v l p. f y (record { word = y ∷ v; short = omega arith; gets = reaches-after i u t y v .0 p }))
 
+  -- then the machine comes to shift it
+  pub chosen-ready : (x : ℕ) → Within B s z st x (suc r) → Ready B st x
+  chosen-ready x k = let (v, l, p) = within-goes-on x k in gets-ready (reaches-after i u t x v .0 p)
+
   -- and there is such a symbol
   pub chosen-some : (x : ℕ) × ((1 ≤ x) × (x < B .terminals)) × Within B s z st x (suc r)
   chosen-some = some (c .goes-on .0) (c .goes-on .1) (c .goes-on .2)
@@ -121,6 +126,10 @@ module _ {rank : ℕ → ℕ} {B : Tables} {s z r : ℕ} {u st : List ℕ} (i : 
       some : (v : List ℕ) → length v ≡ suc r → Reaches B (u ++ v) z s → (x : ℕ) × ((1 ≤ x) × (x < B .terminals)) × Within B s z st x (suc r)
       some [] l p = absurd (omega arith)
       some (x ∷ v) l p = (x, terminal-at u x v (p .terminals), record { word = x ∷ v; short = omega arith; gets = reaches-after i u t x v .0 p })
+
+-- the stack once one symbol more is taken in
+pub after-more : {B : Tables} {st st′ : List ℕ} {x : ℕ} (u : List ℕ) → After B u st → ((rest : List ℕ) → Steps B st (x ∷ rest) st′ rest) → After B (u ++ (x ∷ [])) st′
+after-more {x} u t h rest = rw append-assoc (t (x ∷ rest) ⊕ h rest)
 
 -- with exact claims it is enough to look at what they make of the stack
 pub within-claimed : {B : Tables} {claim : Claims} {s z x r : ℕ} {st : List ℕ} → InRange B → Closed B claim → Witnessed B claim → z < B .terminals → r ≤ limit

@@ -11,6 +11,7 @@ pub mod OrderLaws
 pub mod Answer
 pub mod AnswerLaws
 pub mod ChoiceLaws
+pub mod ShiftLaws
 pub mod Stars
 pub mod StarsLaws
 pub mod Theory
