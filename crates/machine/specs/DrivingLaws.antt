@@ -1,5 +1,5 @@
 -- Laws of a run, symbol by symbol. Assumes nothing.
-use mathlib.Core.Path.{_≡_, refl, sym, _∙_, ap}
+use mathlib.Core.Path.{_≡_, refl, _∙_}
 use mathlib.Core.List.{List, [], _∷_}
 use Prim.Native.Nat.{ℕ, zero, suc, _+_, _-_, _≤_, _<_}
 use native.Mathlib.Numerals.{add-one}
@@ -9,7 +9,7 @@ use lib.ListN.{length, getD, drop, set, length-set, drop-of-length-le}
 use lib.Seq.{drop-cons, drop-set-lt, getD-set-same}
 use Rattle.book.specs.Tables.{Tables}
 use Rattle.machine.specs.Run.{ended, shifting, stopped, reducing, runs, kept, delivered}
-use Rattle.machine.specs.Stack.{stackOf, Stacked, Settled, Fed}
+use Rattle.machine.specs.Stack.{stackOf, Settled, Fed}
 use Rattle.machine.specs.StackLaws.{stack-length, stack-push, push}
 use Rattle.machine.specs.declared.Ending.{Ending}
 use Rattle.machine.specs.declared.Ending.the-variants.{Deep, Passed}
@@ -23,11 +23,6 @@ module _ (B : Tables) (a taken depth : ℕ) {S : ℕ} {lent cells : List ℕ} {n
   unfolding runs
   fed-ended h s = ((λ z w. rw (← h)), s)
 
-  pub fed-deep : {x : ℕ} → shifting x (stackOf cells n) ≡ reducing B a taken 4096 (stackOf lent depth) → Settled S lent cells n → 1024 ≤ n
-      → Fed B S lent cells depth a taken (Closed (Deep (stopped (stackOf cells n) a taken)) n)
-  unfolding runs
-  fed-deep {x} h s l = ((λ z w. rw (← h, lt-ltb 1024 (suc (length (stackOf cells n))) (rw stack-length (omega arith)))), s)
-
   pub fed-push : {x : ℕ} → shifting x (stackOf cells n) ≡ reducing B a taken 4096 (stackOf lent depth) → Settled S lent cells n → x < S → n < 1024
       → Fed B S lent (set cells n x) depth a taken (Depth (n + 1))
   unfolding runs
@@ -35,6 +30,11 @@ module _ (B : Tables) (a taken depth : ℕ) {S : ℕ} {lent cells : List ℕ} {n
     (λ z w. rw (← h, le-ltb 1024 (suc (length (stackOf cells n))) (rw stack-length (omega arith)), stack-push cells n x (omega (arith, s .stacked .room)))),
     push s (omega arith) l b,
   )
+
+  pub fed-deep : {x : ℕ} → shifting x (stackOf cells n) ≡ reducing B a taken 4096 (stackOf lent depth) → Settled S lent cells n → 1024 ≤ n
+      → Fed B S lent cells depth a taken (Closed (Deep (stopped (stackOf cells n) a taken)) n)
+  unfolding runs
+  fed-deep {x} h s l = ((λ z w. rw (← h, lt-ltb 1024 (suc (length (stackOf cells n))) (rw stack-length (omega arith)))), s)
 
 -- ---- the end: what lies after the stack cells is as it was lent
 module _ (B : Tables) (z taken depth : ℕ) {S : ℕ} {lent cells out : List ℕ} {n : ℕ} where

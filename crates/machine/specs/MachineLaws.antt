@@ -10,7 +10,7 @@ use Rattle.book.specs.Tables.{Tables}
 use Rattle.book.specs.TablesLaws.{InRange}
 use Rattle.book.specs.declared.Action.{Action}
 use Rattle.book.specs.declared.Action.the-variants.{Error, Accept, Shift, Reduce}
-use Rattle.machine.specs.Machine.{fails, breaks, shifts, reduces, goes, lands, does, next, Step, shift, reduce, Steps, done, then, Terminals, none, more, Reaches}
+use Rattle.machine.specs.Machine.{breaks, shifts, reduces, goes, lands, does, next, Step, shift, reduce, Steps, done, then, Terminals, none, more, Reaches}
 
 -- what a reduction from the stack q ∷ st under a comes from: the production, and the state then on top with its goto
 pub record Reduction (B : Tables) (q : ℕ) (st : List ℕ) (a : ℕ) (st′ : List ℕ) : Type 0 where
@@ -60,24 +60,6 @@ module _ (B : Tables) (q a : ℕ) (st : List ℕ) where
   pub next-shift : {s : ℕ} → next B (q ∷ st) a ≡ shifts s → B .act q a ≡ Shift s
   unfolding next
   next-shift {s} e = does-shift s (B .act q a) e
-
-  goes-fail : (g : ℕ) (stack : List ℕ) → goes g stack ≡ fails → ⊥
-  goes-fail zero stack e = clash cc
-  goes-fail (suc n) stack e = clash cc
-
-  lands-fail : (X : ℕ) (stack : List ℕ) → lands B X stack ≡ fails → ⊥
-  lands-fail X [] e = clash cc
-  lands-fail X (t ∷ stack) e = goes-fail (B .goto t X) (t ∷ stack) e
-
-  does-fail : (x : Action) → does B (q ∷ st) x ≡ fails → x ≡ Error
-  does-fail Error e = refl
-  does-fail Accept e = cc
-  does-fail (Shift t) e = cc
-  does-fail (Reduce p) e = absurd (lands-fail (B .lhs p) (drop (B .len p) (q ∷ st)) e)
-
-  pub next-fail : next B (q ∷ st) a ≡ fails → B .act q a ≡ Error
-  unfolding next
-  next-fail e = does-fail (B .act q a) e
 
   lands-on : (p : ℕ) (stack st′ : List ℕ) → B .act q a ≡ Reduce p → drop (B .len p) (q ∷ st) ≡ stack → lands B (B .lhs p) stack ≡ reduces st′ → Reduction B q st a st′
   lands-on p [] st′ i d e = absurd (clash cc)

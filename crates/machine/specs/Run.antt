@@ -33,6 +33,7 @@ halts stop st onward breaks = ended (Broken stop) st
 halts stop st onward (shifts s) = shifting s st
 halts stop st onward (reduces new) = onward new
 
+-- what comes of a push, which may be too much; what follows it waits in a function, so that nothing is computed past an ending
 abbrev pub unless : {A : Type 0} → Bool → A → (List ℕ → A) → List ℕ → A
 unless true deep onward new = deep
 unless false deep onward new = onward new
@@ -41,8 +42,8 @@ unless false deep onward new = onward new
 abbrev pub pushed : {A : Type 0} → A → (List ℕ → A) → List ℕ → A
 pushed deep onward new = unless (ltb 1024 (length new)) deep onward new
 
--- the reductions before the symbol a, where as many more as the first number says may be done. 'Spinning: 4,096 reductions were done
--- since the last shift, or the start, and a further one can be done'; 'before a reduction the order is broken, spinning, deep'
+-- the reductions before the symbol a, of which zero or suc k more are allowed. 'Spinning: 4,096 reductions were done since the last
+-- shift, or the start, and a further one can be done'; 'before a reduction the order is broken, spinning, deep'
 unfoldable pub reducing : Tables → ℕ → ℕ → ℕ → List ℕ → Pause
 reducing B a taken zero st = halts (stopped st a taken) st (λ new. ended (Spinning (stopped st a taken)) st) (next B st a)
 reducing B a taken (suc k) st =
@@ -53,8 +54,8 @@ abbrev pub concluded : (ℕ → List ℕ → Ending × List ℕ) → Pause → E
 concluded onward (ended e st) = (e, st)
 concluded onward (shifting s st) = onward s st
 
--- the run from a stack on, with the symbols still to come before the lookahead z. 'Shift takes the symbol in and pushes the state';
--- 'passed (all of w is in and z would be shifted, however full the stack)'
+-- the run from a stack on, with the symbols still to come before the lookahead z; each symbol has its own 4,096 reductions. 'Shift takes
+-- the symbol in and pushes the state'; 'passed (all of w is in and z would be shifted, however full the stack)'
 unfoldable pub runs : Tables → ℕ → List ℕ → ℕ → List ℕ → Ending × List ℕ
 runs B z [] taken st = concluded (λ s top. (Passed (stopped top z taken), top)) (reducing B z taken 4096 st)
 runs B z (a ∷ w) taken st =
@@ -65,6 +66,7 @@ abbrev pub sound : ℕ → List ℕ → ℕ
 sound T [] = 0
 sound T (a ∷ w) = cond (leb 1 a && ltb a T) (suc (sound T w)) 0
 
+-- 'A refusal is a number and a place'
 abbrev pub refused : ℕ → ℕ → Checked
 refused number place = Faulty (record { number = number; place = place })
 
@@ -81,6 +83,7 @@ admitted w z room (Valid d) =
 abbrev pub kept : List ℕ → List ℕ → List ℕ
 kept st lent = reverse st ++ replicate (1024 - length st) 0 ++ drop 1024 lent
 
+-- the answer, and what the lent stack cells then hold
 abbrev pub delivered : List ℕ → Ending × List ℕ → Ran × List ℕ
 delivered lent o = (Ended (o .0), kept (o .1) lent)
 

@@ -2,7 +2,7 @@
 use mathlib.Core.Path.{_≡_, refl, sym, _∙_, ap}
 use mathlib.Core.Bool.{Bool, true, false}
 use mathlib.Core.List.{List, [], _∷_, _++_}
-use Prim.Native.Nat.{ℕ, zero, suc, _+_, _<_, _≤_}
+use Prim.Native.Nat.{ℕ, zero, suc, _+_, _≤_}
 use native.Mathlib.Nat.{zero-add, add-zero, add-suc, suc-add}
 use native.Mathlib.Omega.{arith}
 use lib.Dec.{ltb}
@@ -12,12 +12,13 @@ use Rattle.number.specs.declared.Refusal.{Refusal}
 use Rattle.book.specs.Book.{ofCells, checked}
 use Rattle.book.specs.Tables.{Tables, tablesOf}
 use Rattle.book.specs.TablesLaws.{valid-holds}
-use Rattle.book.specs.declared.Action.the-variants.{Error as Fail}
+use Rattle.book.specs.declared.Action.{Action}
+use Rattle.book.specs.declared.Action.the-variants.{Error as Fail, Accept, Shift, Reduce}
 use Rattle.book.specs.declared.Checked.{Checked}
 use Rattle.book.specs.declared.Checked.the-variants.{Valid, Refused as Faulty}
 use Rattle.book.specs.declared.Sizes.{Sizes}
-use Rattle.machine.specs.Machine.{Move, accepts, fails, breaks, shifts, reduces, next, Step, shift, reduce, Steps, done, then, Terminals, none, more, Reaches}
-use Rattle.machine.specs.MachineLaws.{_⊕_, clash, next-empty, next-fail}
+use Rattle.machine.specs.Machine.{Move, accepts, fails, breaks, shifts, reduces, goes, lands, does, next, Step, shift, reduce, Steps, done, then, Terminals, none, more, Reaches}
+use Rattle.machine.specs.MachineLaws.{_⊕_, clash, next-empty}
 use Rattle.machine.specs.AdmissionLaws.{sound-head, Admitted, admitted-valid}
 use Rattle.machine.specs.Run.{Pause, ended, shifting, stopped, halts, unless, pushed, reducing, concluded, runs, sound, admitted, unrefused, running}
 use Rattle.machine.specs.declared.Ending.{Ending}
@@ -163,6 +164,25 @@ run-ends B w z =
     record { rest = x .rest; within = rw e (x .within); run = rw e (x .run); looked = rw e (x .looked); top = x .top; move = rw zero-add at (x .move) }
 
 -- ---- a run that ends as error with all of w in shows a failing pair
+module _ (B : Tables) (q a : ℕ) (st : List ℕ) where
+  goes-fail : (g : ℕ) (stack : List ℕ) → goes g stack ≡ fails → ⊥
+  goes-fail zero stack e = clash cc
+  goes-fail (suc n) stack e = clash cc
+
+  lands-fail : (X : ℕ) (stack : List ℕ) → lands B X stack ≡ fails → ⊥
+  lands-fail X [] e = clash cc
+  lands-fail X (t ∷ stack) e = goes-fail (B .goto t X) (t ∷ stack) e
+
+  does-fail : (x : Action) → does B (q ∷ st) x ≡ fails → x ≡ Fail
+  does-fail Fail e = refl
+  does-fail Accept e = cc
+  does-fail (Shift t) e = cc
+  does-fail (Reduce p) e = absurd (lands-fail (B .lhs p) (drop (B .len p) (q ∷ st)) e)
+
+  next-fail : next B (q ∷ st) a ≡ fails → B .act q a ≡ Fail
+  unfolding next
+  next-fail e = does-fail (B .act q a) e
+
 pub sound-terminals : (B : Tables) (w : List ℕ) → sound (B .terminals) w ≡ length w → Terminals B w
 sound-terminals B [] e = none
 sound-terminals B (a ∷ w) e = let (some, below, rest) = sound-head (B .terminals) a w e in more some below (sound-terminals B w rest)

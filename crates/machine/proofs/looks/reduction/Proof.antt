@@ -1,6 +1,6 @@
 -- `machine::looks::reduction` meets its contract: broken if too few states are stacked or the goto is none. Assumes nothing.
 use Rattle.book.specs.Tables.{tablesOf}
-use mathlib.Core.Path.{_≡_, sym, _∙_}
+use mathlib.Core.Path.{sym, _∙_}
 use Prim.Native.Nat.{_-_}
 use native.Mathlib.Omega.{arith}
 use Rattle.machine.specs.StackLaws.{goto-below, left-below, lands-short, lands-none, lands-goto}
