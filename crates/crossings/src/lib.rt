@@ -4,3 +4,4 @@ mod production;
 mod reduction;
 
 pub use crossing::crossings;
+pub use reduction::most;

@@ -1,0 +1,48 @@
+-- `advance::distance::round` meets its contract. Assumes nothing.
+use Prim.Native.Nat.{_-_, _≤_}
+use native.Mathlib.Nat.{le-antisymm}
+use native.Mathlib.Omega.{arith}
+use Rattle.book.specs.Tables.{tablesOf}
+use Rattle.book.specs.TablesLaws.{in-range}
+use Rattle.layers.specs.Crossing.{claimIn}
+use Rattle.layers.specs.CrossingLaws.{states-are}
+use Rattle.advance.specs.Round.{Round}
+use Rattle.advance.specs.RoundLaws.{round-more}
+use borrow.Author.Needs.{needs}
+use Rattle.advance.proofs.distance.round.Statement.{statement}
+use Rattle.advance.proofs.distance.round.Tie as tie
+use Rattle.advance.proofs.distance.round.Reads as reads
+use Rattle.advance.proofs.distance.round.Lts as lts
+use Rattle.advance.proofs.distance.turn.Reads as turn-reads
+
+abbrev Inv-loop : tie.InvT-loop
+Inv-loop cells d table x m to₀ s n₀ q₀ to n q = (q ≤ s) × (n ≤ q) × Round (tablesOf cells) (claimIn d table) x m q n to
+
+abbrev μ-loop : tie.MeasureT-loop
+μ-loop cells d table x m to₀ s n₀ q₀ to n q = s - q
+
+loop-holds : tie.Need-loop-holds Inv-loop μ-loop
+loop-holds c = (omega arith, omega arith, c .before .before .pre .1 .1 .1)
+
+turn-requires : tie.Need-turn-requires Inv-loop μ-loop
+turn-requires c κs = (c .before .before .before .before .before .pre .0, ((c .before .before .before .before .before .pre .1 .0 .0, c .before .loop-test .taken, c .before .before .before .before .before .pre .1 .0 .2), (c .before .before .before .before .before .pre .1 .1 .0, (c .before .before .before .before .before .pre .1 .0 .1, c .before .before .loop .inv .2 .sound .size))))
+
+add-n : tie.Need-add-n Inv-loop μ-loop
+add-n c = omega (arith, c .turn .ensures .0, c .before .before .before .before .before .before .pre .0 .small .states)
+
+add-q : tie.Need-add-q Inv-loop μ-loop
+add-q c = search needs
+
+loop-less : tie.Need-loop-less Inv-loop μ-loop
+loop-less c = search needs
+
+loop-again : tie.Need-loop-again Inv-loop μ-loop
+loop-again c = (omega arith, omega (arith, c .turn .ensures .0), round-more (in-range (c .before .before .before .before .before .before .pre .0)) (omega (arith, states-are (c .before .before .before .before .before .before .pre .0), c .before .before .before .before .before .before .pre .0 .small .states)) (omega (arith, states-are (c .before .before .before .before .before .before .pre .0), c .before .before .loop-test .taken)) (c .before .before .before .loop .inv .2) (c .turn .ensures .1))
+
+returns : tie.Need-returns Inv-loop μ-loop
+returns c = rw (le-antisymm (c .before .loop .inv .0) (c .loop-test .left)) at (c .before .loop .inv .2)
+
+pub round-spec : {M : Type 1} → statement M
+round-spec =
+    tie.close
+    (tie.spec Inv-loop μ-loop loop-holds turn-requires add-n add-q loop-less loop-again returns)

@@ -1,0 +1,54 @@
+-- `advance::distance::start` meets its contract. Assumes nothing.
+use Prim.Native.Nat.{_-_, _≤_}
+use native.Mathlib.Nat.{le-antisymm}
+use native.Mathlib.Omega.{arith}
+use Rattle.book.specs.Tables.{tablesOf}
+use Rattle.advance.specs.Round.{Started}
+use Rattle.advance.specs.RoundLaws.{started-none, started-more}
+use borrow.Author.Needs.{needs}
+use Rattle.advance.proofs.distance.start.Statement.{statement}
+use Rattle.advance.proofs.distance.start.Tie as tie
+use Rattle.advance.proofs.distance.start.Reads as reads
+use Rattle.advance.proofs.distance.start.Lts as lts
+use Rattle.advance.proofs.distance.first.Reads as first-reads
+
+abbrev Inv-loop : tie.InvT-loop
+Inv-loop cells d x to₀ s q₀ to q = (q ≤ s) × Started (tablesOf cells) x q to
+
+abbrev μ-loop : tie.MeasureT-loop
+μ-loop cells d x to₀ s q₀ to q = s - q
+
+loop-holds : tie.Need-loop-holds Inv-loop μ-loop
+loop-holds c = (omega arith, started-none)
+
+first-requires : tie.Need-first-requires Inv-loop μ-loop
+first-requires c κs = search needs
+
+element-write-to : tie.Need-element-write-to Inv-loop μ-loop
+element-write-to c = omega (arith, c .before .before .loop .inv .1 .size, c .before .before .before .before .before .pre .0 .small .states)
+
+add-q : tie.Need-add-q Inv-loop μ-loop
+add-q c = search needs
+
+loop-less : tie.Need-loop-less Inv-loop μ-loop
+loop-less c = search needs
+
+loop-again : tie.Need-loop-again Inv-loop μ-loop
+loop-again c = (omega arith, started-more (omega (arith, c .before .before .before .before .before .pre .0 .small .states, c .before .loop-test .taken)) (c .before .before .loop .inv .1) (c .first .ensures))
+
+returns : tie.Need-returns Inv-loop μ-loop
+returns c = rw (le-antisymm (c .before .loop .inv .0) (c .loop-test .left)) at (c .before .loop .inv .1)
+
+pub start-spec : {M : Type 1} → statement M
+start-spec =
+    tie.close
+    (tie.spec
+    Inv-loop
+    μ-loop
+    loop-holds
+    first-requires
+    element-write-to
+    add-q
+    loop-less
+    loop-again
+    returns)

@@ -1,0 +1,54 @@
+-- `advance::distance::toward` meets its contract. Assumes nothing.
+use Prim.Native.Nat.{ℕ, _-_, _≤_, _<_}
+use native.Mathlib.Omega.{arith}
+use borrow.Author.Count.{below-none, below-more}
+use Rattle.book.specs.Tables.{tablesOf}
+use Rattle.layers.specs.Crossing.{claimIn}
+use Rattle.advance.specs.Nearest.{Leads}
+use borrow.Author.Needs.{needs}
+use Rattle.advance.proofs.distance.toward.Statement.{statement}
+use Rattle.advance.proofs.distance.toward.Tie as tie
+use Rattle.advance.proofs.distance.toward.Reads as reads
+use Rattle.advance.proofs.distance.toward.Lts as lts
+use Rattle.advance.proofs.distance.leads.Reads as leads-reads
+
+abbrev Inv-loop : tie.InvT-loop
+Inv-loop cells d table x to q m n v₀ v = (v ≤ n) × ((k : ℕ) → k < v → ¬ Leads (tablesOf cells) (claimIn d table) x to q m k)
+
+abbrev μ-loop : tie.MeasureT-loop
+μ-loop cells d table x to q m n v₀ v = n - v
+
+loop-holds : tie.Need-loop-holds Inv-loop μ-loop
+loop-holds c = (omega arith, below-none _)
+
+leads-requires : tie.Need-leads-requires Inv-loop μ-loop
+leads-requires c κs = search needs
+
+returns : tie.Need-returns Inv-loop μ-loop
+returns c = record { within = omega (arith, c .before .before .loop-test .taken); found = λ h. c .before .leads .ensures .0 (c .if1 .taken); before = c .before .before .before .loop .inv .1 }
+
+add-v : tie.Need-add-v Inv-loop μ-loop
+add-v c = search needs
+
+loop-less : tie.Need-loop-less Inv-loop μ-loop
+loop-less c = search needs
+
+loop-again : tie.Need-loop-again Inv-loop μ-loop
+loop-again c = (omega (arith, c .before .before .loop-test .taken), below-more _ _ (c .before .before .before .loop .inv .1) (c .before .leads .ensures .1 (c .if1 .left)))
+
+returns-2 : tie.Need-returns-2 Inv-loop μ-loop
+returns-2 c = record { within = omega arith; found = λ h. absurd (omega arith); before = λ k h. c .before .loop .inv .1 k (omega (arith, c .loop-test .left)) }
+
+pub toward-spec : {M : Type 1} → statement M
+toward-spec =
+    tie.close
+    (tie.spec
+    Inv-loop
+    μ-loop
+    loop-holds
+    leads-requires
+    returns
+    add-v
+    loop-less
+    loop-again
+    returns-2)

@@ -1,0 +1,53 @@
+-- `distances::goal::mark` meets its contract. Assumes nothing.
+use native.Mathlib.Omega.{arith}
+use mathlib.Core.Path.{_≡_, refl, _∙_, sym}
+use Prim.Native.Nat.{ℕ, _+_, _*_, _-_, _≤_, _<_}
+use native.Mathlib.Nat.{le-antisymm}
+use Rattle.distances.specs.GoalLaws.{MarkedBelow, below-more, below-all}
+use borrow.Author.Needs.{needs}
+use Rattle.distances.proofs.goal.mark.Statement.{statement}
+use Rattle.distances.proofs.goal.mark.Tie as tie
+use Rattle.distances.proofs.goal.mark.Reads as reads
+use Rattle.distances.proofs.goal.mark.Lts as lts
+use Rattle.distances.proofs.goal.has_distance.Reads as has-distance-reads
+
+abbrev Inv-loop : tie.InvT-loop
+Inv-loop dist t flags₀ q₀ flags q = (q ≤ 128) × MarkedBelow t q flags dist
+
+abbrev μ-loop : tie.MeasureT-loop
+μ-loop dist t flags₀ q₀ flags q = 128 - q
+
+loop-holds : tie.Need-loop-holds Inv-loop μ-loop
+loop-holds c = (omega arith, record { count = c .pre .1 .1; off = λ q z h hz e. absurd (omega arith) })
+
+has-distance-requires : tie.Need-has-distance-requires Inv-loop μ-loop
+has-distance-requires c κs = ((c .loop-test .taken, c .before .before .pre .0), c .before .before .pre .1 .0)
+
+element-write-flags : tie.Need-element-write-flags Inv-loop μ-loop
+element-write-flags c = search needs
+
+add-q : tie.Need-add-q Inv-loop μ-loop
+add-q c = search needs
+
+loop-less : tie.Need-loop-less Inv-loop μ-loop
+loop-less c = search needs
+
+loop-again : tie.Need-loop-again Inv-loop μ-loop
+loop-again c = (omega arith, below-more _ _ (c .before .loop-test .taken) (c .has-distance .ensures) (c .before .before .loop .inv .1))
+
+returns : tie.Need-returns Inv-loop μ-loop
+returns c = below-all (rw (le-antisymm (c .before .loop .inv .0) (c .loop-test .left)) at (c .before .loop .inv .1))
+
+pub mark-spec : {M : Type 1} → statement M
+mark-spec =
+    tie.close
+    (tie.spec
+    Inv-loop
+    μ-loop
+    loop-holds
+    has-distance-requires
+    element-write-flags
+    add-q
+    loop-less
+    loop-again
+    returns)

@@ -1,0 +1,7 @@
+pub mod Distances
+pub mod DistancesLaws
+pub mod Pass
+pub mod PassLaws
+pub mod TableLaws
+pub mod StartLaws
+pub mod GoalLaws

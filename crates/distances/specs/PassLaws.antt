@@ -1,0 +1,183 @@
+-- Laws of passes over a table of distances: no turn, one store, one turn more. Assumes nothing.
+use mathlib.Core.List.{List}
+use mathlib.Core.Logic.{_⊎_, inl, inr, ⊎-map}
+use mathlib.Core.Path.{_≡_, refl, sym, _∙_, subst}
+use Prim.Native.Nat.{ℕ, _+_, _*_, _≤_, _<_, max, min}
+use native.Mathlib.Decide.{ℕ-discrete}
+use native.Mathlib.Nat.{le-antisymm, le-refl, le-trans}
+use native.Mathlib.Omega.{arith}
+use lib.ListN.{length, getD, set, length-set}
+use lib.Seq.{set-getD}
+use Rattle.book.specs.Tables.{Tables}
+use Rattle.walk.specs.Cost.{unreached, plus}
+use Rattle.walk.specs.CostLaws.{plus-zero, zero-plus, plus-assoc, plus-far-right, plus-bounded}
+use Rattle.walk.specs.Claims.{Claims, Claimed, none}
+use Rattle.walk.specs.ClaimsLaws.{claimed-next, claimed-append, claimed-shift, claimed-goto}
+use Rattle.walk.specs.Layers.{Sooner, from-shift, from-goto}
+use Rattle.layers.specs.Layer.{entryIn}
+use Rattle.layers.specs.Step.{Step, Upto}
+use Rattle.layers.specs.StepLaws.{step-zero, step-more, step-done, step-least, step-none}
+use Rattle.crossings.specs.Pass.{total, Stored, kept, stored, Each}
+use Rattle.crossings.specs.PassLaws.{total-set}
+use Rattle.distances.specs.Distances.{distanceIn}
+use Rattle.distances.specs.DistancesLaws.{distance-read, distance-same, distance-other}
+use Rattle.distances.specs.Pass.{Merged, Bounded, From, Drawn, Pass}
+
+-- ---- entries lowered to those of a layer
+pub merged-none : {P : ℕ → ℕ → ℕ → Type 0} {l : List ℕ} → length l ≡ 4096 → ((q z w : ℕ) → P q z w → z < 32 → w < unreached → ⊥) → Merged P 0 l l
+merged-none h f = record { size = h; step = step-none f; sum = omega arith; same = λ e. refl }
+
+pub merged-zero : {P : ℕ → ℕ → ℕ → ℕ → Type 0} {l : List ℕ} → length l ≡ 4096 → Merged (Upto P 0) 0 l l
+merged-zero h = record { size = h; step = step-zero; sum = omega arith; same = λ e. refl }
+
+-- one store; a cell that is kept holds the least already
+pub merged-store : {old new : List ℕ} {r : ℕ} (g j v w : ℕ) → g < 128 → j < 32 → length old ≡ 4096 → v ≡ w → Stored (g * 32 + j) v old r new
+    → Merged (λ q z w′. (q ≡ g) × (z ≡ j) × (w′ ≡ w)) r old new
+merged-store {old} g j v w hg hj h e (kept l) = record {
+  size = h;
+  step = rw (set-getD old (g * 32 + j) 0) at (step-least old g j w (getD old (g * 32 + j) 0) v (getD old (g * 32 + j) 0) hg hj h (omega arith) refl e);
+  sum = omega arith;
+  same = λ o. refl;
+}
+merged-store {old} g j v w hg hj h e (stored l) = record {
+  size = length-set old (g * 32 + j) v ∙ h;
+  step = step-least old g j w (getD old (g * 32 + j) 0) v v hg hj h (omega arith) refl e;
+  sum = omega (arith, total-set old (g * 32 + j) v (omega arith));
+  same = λ o. absurd (omega (arith, o));
+}
+
+pub merged-more : (P : ℕ → ℕ → ℕ → ℕ → Type 0) (i : ℕ) {n r m : ℕ} {a b c : List ℕ} → m ≡ max n r → Merged (Upto P i) n a b → Merged (P i) r b c
+    → Merged (Upto P (i + 1)) m a c
+merged-more P i {n} {r} e p q = rw e record {
+  size = q .size;
+  step = step-more P i (p .step) (q .step);
+  sum = omega arith;
+  same = λ o. q .same (omega (arith, o)) ∙ p .same (omega (arith, o));
+}
+
+pub merged-done : (P : ℕ → ℕ → ℕ → ℕ → Type 0) {i n k : ℕ} {a b : List ℕ} → i ≤ k → k ≤ i → Merged (Upto P i) n a b → Merged (Upto P k) n a b
+merged-done P {n} {a} {b} h g p = subst (λ (j : ℕ). Merged (Upto P j) n a b) (le-antisymm h g) p
+
+-- ---- distances drawn from older ones
+module _ {B : Tables} {claim : Claims} where
+  pub drawn-same : {l : List ℕ} → Bounded (B .terminals) l → Drawn B claim l l
+  drawn-same {l} b = record {
+    bounded = b;
+    fall = λ q a h. le-refl _;
+    drawn = λ q a h. inr record {
+      count = 0;
+      state = q;
+      next = a;
+      before = 0;
+      walk = none h;
+      sum = sym (zero-plus (distanceIn l q a) (b .most q a h));
+    };
+  }
+
+  pub drawn-join : {l m k : List ℕ} → Drawn B claim l m → Drawn B claim m k → Drawn B claim l k
+  drawn-join {l} {m} {k} f g = record {
+    bounded = g .bounded;
+    fall = λ q a h. le-trans (g .fall q a h) (f .fall q a h);
+    drawn = λ q a h. first q a (g .drawn q a h);
+  }
+    where
+      second : (q a w : ℕ) (x : From B claim (distanceIn m) q a w)
+          → (distanceIn m (x .state) (x .next) ≡ unreached) ⊎ From B claim (distanceIn l) (x .state) (x .next) (distanceIn m (x .state) (x .next))
+          → (w ≡ unreached) ⊎ From B claim (distanceIn l) q a w
+      second q a w x (inl e) = inl (x .sum ∙ plus-far-right _ _ (omega arith))
+      second q a w x (inr y) = inr record {
+        count = x .count + y .count;
+        state = y .state;
+        next = y .next;
+        before = plus (x .before) (y .before);
+        walk = claimed-append (x .walk) (y .walk);
+        sum = rw (plus-assoc, ← y .sum) (x .sum);
+      }
+
+      first : (q a : ℕ) → (distanceIn k q a ≡ unreached) ⊎ From B claim (distanceIn m) q a (distanceIn k q a)
+          → (distanceIn k q a ≡ unreached) ⊎ From B claim (distanceIn l) q a (distanceIn k q a)
+      first q a (inl e) = inl e
+      first q a (inr x) = second q a _ x (f .drawn (x .state) (x .next) (claimed-next (x .walk)))
+
+  -- what one transition makes of distances is drawn from them
+  from-sooner : {l : List ℕ} {q a v : ℕ} → Bounded (B .terminals) l → a < B .terminals → Sooner B claim (distanceIn l) q a v → From B claim (distanceIn l) q a v
+  from-sooner {l} {q} {a} b ha (from-shift {q₁} c e h) = record {
+    count = 1;
+    state = q₁;
+    next = c;
+    before = plus 1 0;
+    walk = claimed-shift e ha (none h);
+    sum = rw (plus-zero 1 (omega arith)) refl;
+  }
+  from-sooner {l} {q} {a} b ha (from-goto {q₁} X c g h) = record {
+    count = 1;
+    state = q₁;
+    next = c;
+    before = plus (claim q X a c) 0;
+    walk = claimed-goto X g ha (none h);
+    sum = rw (plus-assoc, zero-plus (distanceIn l q₁ c) (b .most q₁ c h)) refl;
+  }
+
+  drawn-set : {l : List ℕ} (q a v : ℕ) → B .terminals ≤ 32 → q < 128 → a < B .terminals → v < getD l (q * 32 + a) 0
+      → (v ≡ unreached) ⊎ Sooner B claim (distanceIn l) q a v → Bounded (B .terminals) l → Drawn B claim l (set l (q * 32 + a) v)
+  drawn-set {l} q a v small hq ha less x b = record {
+    bounded = record {
+      size = length-set l (q * 32 + a) v ∙ b .size;
+      most = λ q′ z h. le-trans (fall q′ z h (ℕ-discrete q′ q) (ℕ-discrete z a)) (b .most q′ z h);
+    };
+    fall = λ q′ z h. fall q′ z h (ℕ-discrete q′ q) (ℕ-discrete z a);
+    drawn = λ q′ z h. drawn q′ z h (ℕ-discrete q′ q) (ℕ-discrete z a);
+  }
+    where
+      same : Drawn B claim l l
+      same = drawn-same b
+
+      at : distanceIn (set l (q * 32 + a) v) q a ≡ v
+      at = distance-same l q a v (b .size) hq (omega arith)
+
+      other : (q′ z : ℕ) → z < B .terminals → (q′ ≡ q → z ≡ a → ⊥) → distanceIn (set l (q * 32 + a) v) q′ z ≡ distanceIn l q′ z
+      other q′ z h away = distance-other l q a v q′ z (omega arith) (omega arith) away
+
+      fall : (q′ z : ℕ) → z < B .terminals → Dec (q′ ≡ q) → Dec (z ≡ a) → distanceIn (set l (q * 32 + a) v) q′ z ≤ distanceIn l q′ z
+      fall q′ z h (yes i) (yes j) = rw (i, j, at) (omega (arith, distance-read l q a hq))
+      fall q′ z h (yes i) (no j) = rw (other q′ z h (λ e f. j f)) (le-refl _)
+      fall q′ z h (no i) j = rw (other q′ z h (λ e f. i e)) (le-refl _)
+
+      drawn : (q′ z : ℕ) → z < B .terminals → Dec (q′ ≡ q) → Dec (z ≡ a)
+          → (distanceIn (set l (q * 32 + a) v) q′ z ≡ unreached) ⊎ From B claim (distanceIn l) q′ z (distanceIn (set l (q * 32 + a) v) q′ z)
+      drawn q′ z h (yes i) (yes j) = rw (i, j, at) (⊎-map (λ e. e) (λ s. from-sooner b ha s) x)
+      drawn q′ z h (yes i) (no j) = rw (other q′ z h (λ e f. j f)) (same .drawn q′ z h)
+      drawn q′ z h (no i) j = rw (other q′ z h (λ e f. i e)) (same .drawn q′ z h)
+
+  -- ---- passes over them
+  pub pass-none : {D : List ℕ → Type 0} {l : List ℕ} → Bounded (B .terminals) l → D l → Pass B claim D 0 l l
+  pass-none b x = record { drawn = drawn-same b; sum = omega arith; same = λ e. refl; done = λ e. x }
+
+  pub pass-store : {D : List ℕ → Type 0} {old new : List ℕ} {r : ℕ} (q a v : ℕ) → B .terminals ≤ 32 → q < 128 → a < B .terminals
+      → (v ≡ unreached) ⊎ Sooner B claim (distanceIn old) q a v → Bounded (B .terminals) old → (distanceIn old q a ≤ v → D old)
+      → Stored (q * 32 + a) v old r new → Pass B claim D r old new
+  pass-store {old} q a v small hq ha x b f (kept l) = pass-none b (f (omega (arith, distance-read old q a hq)))
+  pass-store {old} q a v small hq ha x b f (stored l) = record {
+    drawn = drawn-set q a v small hq ha l x b;
+    sum = omega (arith, total-set old (q * 32 + a) v (omega (arith, b .size)));
+    same = λ e. absurd (omega (arith, e));
+    done = λ e. absurd (omega (arith, e));
+  }
+
+  -- one turn more
+  pub pass-more : (D : ℕ → List ℕ → Type 0) (i : ℕ) {n r m : ℕ} {a b c : List ℕ} → m ≡ max n r → Pass B claim (Each D i) n a b → Pass B claim (D i) r b c
+      → Pass B claim (Each D (i + 1)) m a c
+  pass-more D i {n} {r} {b} {c} e p q = rw e record {
+    drawn = drawn-join (p .drawn) (q .drawn);
+    sum = omega arith;
+    same = λ o. q .same (omega (arith, o)) ∙ p .same (omega (arith, o));
+    done = λ o j h. turn (omega (arith, o)) (omega (arith, o)) j h (ℕ-discrete j i);
+  }
+    where
+      turn : n ≡ 0 → r ≡ 0 → (j : ℕ) → j < i + 1 → Dec (j ≡ i) → D j c
+      turn z y j h (yes k) = rw k (q .done y)
+      turn z y j h (no k) = rw (q .same y) (p .done z j (omega arith))
+
+  -- the loop is left with every turn done
+  pub pass-done : (D : ℕ → List ℕ → Type 0) {i n k : ℕ} {a b : List ℕ} → i ≤ k → k ≤ i → Pass B claim (Each D i) n a b → Pass B claim (Each D k) n a b
+  pass-done D {n} {a} {b} h g p = subst (λ (j : ℕ). Pass B claim (Each D j) n a b) (le-antisymm h g) p

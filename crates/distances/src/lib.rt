@@ -1,0 +1,8 @@
+// Distances: from the start to every pair, and from every pair to a set of goal pairs.
+mod entry;
+mod goal;
+mod start;
+mod transition;
+
+pub use goal::to_goal;
+pub use start::from_start;

@@ -1,0 +1,53 @@
+-- `search::expand::lower` meets its contract. Assumes nothing.
+use native.Mathlib.Omega.{arith}
+use mathlib.Core.Path.{refl}
+use lib.ListN.{length-set}
+use Rattle.search.specs.ExpandLaws.{step-lowered}
+use borrow.Author.Needs.{needs}
+use Rattle.search.proofs.expand.lower.Statement.{statement}
+use Rattle.search.proofs.expand.lower.Tie as tie
+
+mul-least : tie.Need-mul-least
+mul-least c = search needs
+
+add-least : tie.Need-add-least
+add-least c = search needs
+
+mul-least-2 : tie.Need-mul-least-2
+mul-least-2 c = search needs
+
+element-copy-out-least : tie.Need-element-copy-out-least
+element-copy-out-least c = search needs
+
+least-requires : tie.Need-least-requires
+least-requires c κs = search needs
+
+mul-events : tie.Need-mul-events
+mul-events c = search needs
+
+add-events : tie.Need-add-events
+add-events c = search needs
+
+mul-events-2 : tie.Need-mul-events-2
+mul-events-2 c = search needs
+
+element-write-events : tie.Need-element-write-events
+element-write-events c = search needs
+
+returns : tie.Need-returns
+returns c = (simp length-set (c .before .before .pre .2), step-lowered _ _ _ _ _ _ _ (c .before .before .pre .1) (omega arith) (c .least .ensures) refl refl)
+
+pub lower-spec : {M : Type 1} → statement M
+lower-spec =
+    tie.close
+    (tie.spec
+    mul-least
+    add-least
+    mul-least-2
+    element-copy-out-least
+    least-requires
+    mul-events
+    add-events
+    mul-events-2
+    element-write-events
+    returns)

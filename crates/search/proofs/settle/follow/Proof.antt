@@ -1,0 +1,94 @@
+-- `search::settle::follow` meets its contract. Assumes nothing.
+use native.Mathlib.Omega.{arith}
+use mathlib.Core.Path.{_∙_, sym}
+use Prim.Native.Nat.{_-_, _/_}
+use lib.ListN.{length-set}
+use Rattle.layers.specs.CrossingLaws.{goto-least}
+use Rattle.layers.specs.Layer.{entryIn}
+use Rattle.search.specs.Settle.{absent, passed, hits}
+use borrow.Author.Needs.{needs}
+use Rattle.search.proofs.settle.follow.Statement.{statement}
+use Rattle.search.proofs.settle.follow.Tie as tie
+
+mul-v : tie.Need-mul-v
+mul-v c = search needs
+
+add-v : tie.Need-add-v
+add-v c = search needs
+
+mul-v-2 : tie.Need-mul-v-2
+mul-v-2 c = search needs
+
+element-copy-out-v : tie.Need-element-copy-out-v
+element-copy-out-v c = search needs
+
+mul-done : tie.Need-mul-done
+mul-done c = search needs
+
+element-write-done : tie.Need-element-write-done
+element-write-done c = search needs
+
+goto-at-requires : tie.Need-goto-at-requires
+goto-at-requires c κs = search needs
+
+returns : tie.Need-returns
+returns c = ((c .before .before .before .before .before .pre .1 .1 .1 .1 .1 .0, simp length-set (c .before .before .before .before .before .pre .1 .1 .1 .1 .1 .1)), absent (sym (c .before .goto-at .ensures) ∙ c .if1 .taken))
+
+sub-g : tie.Need-sub-g
+sub-g c = search needs
+
+cast-g : tie.Need-cast-g
+cast-g c = search needs
+
+mul-add : tie.Need-mul-add
+mul-add c = search needs
+
+add-add : tie.Need-add-add
+add-add c = search needs
+
+mul-add-2 : tie.Need-mul-add-2
+mul-add-2 c = search needs
+
+element-copy-out-add : tie.Need-element-copy-out-add
+element-copy-out-add c = omega (arith, c .if1 .left, c .before .goto-at .ensures, goto-least (c .before .before .before .before .before .pre .0) (c .before .before .before .before .before .args .q) (c .before .before .before .before .before .args .i / 32) (c .before .before .before .before .before .pre .1 .0 .0) (omega (arith, c .before .before .before .before .before .pre .1 .0 .3)), c .before .before .before .before .before .pre .0 .small .states)
+
+add-requires : tie.Need-add-requires
+add-requires c κs = search needs
+
+cast-result : tie.Need-cast-result
+cast-result c = search needs
+
+returns-2 : tie.Need-returns-2
+unfolding entryIn
+returns-2 c = ((c .before .before .before .before .before .before .before .before .pre .1 .1 .1 .1 .1 .0, simp length-set (c .before .before .before .before .before .before .before .before .pre .1 .1 .1 .1 .1 .1)), hits {g = c .before .before .before .before .goto-at .result - 1} (c .before .before .before .before .goto-at .result) (omega (arith, c .before .before .before .if1 .left)) (omega (arith, c .before .before .before .if1 .left, c .before .before .before .before .goto-at .ensures)) (rw (c .before .add .ensures) at (c .if2 .taken)))
+
+expand-requires : tie.Need-expand-requires
+expand-requires c κs = (c .before .before .before .before .before .before .before .before .before .pre .0, ((omega (arith, c .before .before .before .before .if1 .left, c .before .before .before .before .before .goto-at .ensures, goto-least (c .before .before .before .before .before .before .before .before .before .pre .0) (c .before .before .before .before .before .before .before .before .before .args .q) (c .before .before .before .before .before .before .before .before .before .args .i / 32) (c .before .before .before .before .before .before .before .before .before .pre .1 .0 .0) (omega (arith, c .before .before .before .before .before .before .before .before .before .pre .1 .0 .3))), c .before .before .before .before .before .before .before .before .before .pre .1 .0 .4, c .before .before .before .before .before .before .before .before .before .pre .1 .0 .1, c .before .before .before .before .before .before .before .before .before .pre .1 .0 .2), (c .before .before .before .before .before .before .before .before .before .pre .1 .1 .0, (c .before .before .before .before .before .before .before .before .before .pre .1 .1 .1 .0, (c .before .before .before .before .before .before .before .before .before .pre .1 .1 .1 .1 .0, c .before .before .before .before .before .before .before .before .before .pre .1 .1 .1 .1 .1 .0)))))
+
+returns-3 : tie.Need-returns-3
+unfolding entryIn
+returns-3 c = ((c .expand .ensures .0, simp length-set (c .before .before .before .before .before .before .before .before .before .before .pre .1 .1 .1 .1 .1 .1)), passed {g = c .before .before .before .before .before .before .goto-at .result - 1} (omega (arith, c .before .before .before .before .before .if1 .left, c .before .before .before .before .before .before .goto-at .ensures)) (rw (c .before .before .before .add .ensures) at (c .before .before .if2 .left)) (c .expand .ensures .1))
+
+pub follow-spec : {M : Type 1} → statement M
+follow-spec =
+    tie.close
+    (tie.spec
+    mul-v
+    add-v
+    mul-v-2
+    element-copy-out-v
+    mul-done
+    element-write-done
+    goto-at-requires
+    returns
+    sub-g
+    cast-g
+    mul-add
+    add-add
+    mul-add-2
+    element-copy-out-add
+    add-requires
+    cast-result
+    returns-2
+    expand-requires
+    returns-3)

@@ -1,0 +1,38 @@
+-- `search::settle::waits` meets its contract. Assumes nothing.
+use Rattle.search.specs.SettleLaws.{waits-beyond, waits-test}
+use borrow.Author.Needs.{needs}
+use Rattle.search.proofs.settle.waits.Statement.{statement}
+use Rattle.search.proofs.settle.waits.Tie as tie
+
+returns : tie.Need-returns
+returns c = waits-beyond _ _ _ _ _ (c .if1 .taken)
+
+add-result : tie.Need-add-result
+add-result c = search needs
+
+mul-result : tie.Need-mul-result
+mul-result c = search needs
+
+element-copy-out-result : tie.Need-element-copy-out-result
+element-copy-out-result c = search needs
+
+mul-result-2 : tie.Need-mul-result-2
+mul-result-2 c = search needs
+
+element-copy-out-result-2 : tie.Need-element-copy-out-result-2
+element-copy-out-result-2 c = search needs
+
+returns-2 : tie.Need-returns-2
+returns-2 c = waits-test _ _ _ _ _ (c .before .before .if1 .left)
+
+pub waits-spec : {M : Type 1} → statement M
+waits-spec =
+    tie.close
+    (tie.spec
+    returns
+    add-result
+    mul-result
+    element-copy-out-result
+    mul-result-2
+    element-copy-out-result-2
+    returns-2)

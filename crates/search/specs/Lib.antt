@@ -1,0 +1,9 @@
+pub mod Completes
+pub mod CompletesLaws
+pub mod Waiting
+pub mod WaitingLaws
+pub mod ExpandLaws
+pub mod Settle
+pub mod SettleLaws
+pub mod Search
+pub mod SearchLaws

@@ -1,0 +1,198 @@
+// From one state: every reduction that pops more than was pushed since, into the table of waiting gotos.
+ghost use mathlib.Core.Path.{_≡_};
+ghost use Prim.Native.Nat.{ℕ, _+_, _*_, _≤_, _<_, max};
+ghost use lib.ListN.{length};
+ghost use Rattle.book.specs.Tables.{tablesOf};
+ghost use Rattle.book.specs.TablesLaws.{Holds};
+ghost use Rattle.walk.specs.Cost.{plus, limit};
+ghost use Rattle.layers.specs.Crossing.{room, claimIn, Quiet};
+ghost use Rattle.layers.specs.Layer.{entryIn, valueIn};
+ghost use Rattle.layers.specs.Step.{Step};
+ghost use Rattle.search.specs.Waiting.{Expands, Lowered, Popped, Reduces, ReducesState, ReducesLayer, Longest};
+use book::Action;
+use book::Sizes;
+use book::action_at;
+use book::left_side;
+use book::production_length;
+use layers::begin;
+use layers::lengthen;
+use walk::UNREACHED;
+use walk::add;
+use walk::least;
+
+fn larger(x: usize, y: usize) -> usize
+    ensures { λ r. ⌜ r ≡ max x y ⌝ }
+{
+    if x < y { y } else { x }
+}
+
+// The length of the longest production.
+pub fn longest(cells: &[u16], d: Sizes) -> usize
+    requires { ⌜ Holds d (now cells) ⌝ }
+    ensures { λ r. ⌜ Longest (tablesOf (now (cells .entry))) r ⌝ }
+{
+    let n = d.p;
+    let mut most: usize = 0;
+    let mut p: usize = 0;
+    while p < n {
+        most = larger(most, production_length(cells, d, p) as usize);
+        p += 1;
+    }
+    most
+}
+
+fn lower(events: &mut [u16; 32768], row: usize, c: usize, w: u16)
+    requires { ⌜ (row < 1024) × (c < 32) × (length (now events) ≡ 32768) ⌝ }
+    ensures { λ _. ⌜ length (now (events .exit)) ≡ 32768 ⌝ }
+    ensures { λ _. ⌜ Step (Lowered row c w) (entryIn (now (events .entry))) (entryIn (now (events .exit))) ⌝ }
+{
+    events[row * 32 + c] = least(events[row * 32 + c], w);
+}
+
+// Production p is reduced under c, m transitions from the state, at the cost w.
+fn pop(
+    cells: &[u16],
+    d: Sizes,
+    at: usize,
+    m: usize,
+    p: usize,
+    c: usize,
+    w: u16,
+    events: &mut [u16; 32768],
+)
+    requires { ⌜ Holds d (now cells) ⌝ }
+    requires { ⌜ (p < d .p) × (c < d .t) × (at < 32) ⌝ }
+    requires { ⌜ length (now events) ≡ 32768 ⌝ }
+    ensures { λ _. ⌜ length (now (events .exit)) ≡ 32768 ⌝ }
+    ensures { λ _. ⌜ Step (Popped (tablesOf (now (cells .entry))) at m p c w) (entryIn (now (events .entry))) (entryIn (now (events .exit))) ⌝ }
+{
+    let n = production_length(cells, d, p) as usize;
+    if n <= m {
+        return;
+    }
+    let x = left_side(cells, d, p) as usize;
+    lower(events, (at + (n - m - 1)) % 32 * 32 + x, c, w);
+}
+
+// The reduction in (q, c), if there is one and the cost is within r.
+fn pop_at(
+    cells: &[u16],
+    d: Sizes,
+    at: usize,
+    m: usize,
+    r: u16,
+    q: usize,
+    c: usize,
+    w: u16,
+    events: &mut [u16; 32768],
+)
+    requires { ⌜ Holds d (now cells) ⌝ }
+    requires { ⌜ (q < d .s) × (c < d .t) × (at < 32) ⌝ }
+    requires { ⌜ length (now events) ≡ 32768 ⌝ }
+    ensures { λ _. ⌜ length (now (events .exit)) ≡ 32768 ⌝ }
+    ensures { λ _. ⌜ Step (Reduces (tablesOf (now (cells .entry))) at m r q c w) (entryIn (now (events .entry))) (entryIn (now (events .exit))) ⌝ }
+{
+    if w > r {
+        return;
+    }
+    match action_at(cells, d, q, c) {
+        Action::Reduce(p) => pop(cells, d, at, m, p as usize, c, w, events),
+        Action::Error => {}
+        Action::Accept => {}
+        Action::Shift(_) => {}
+    }
+}
+
+// The reductions in state q of a layer, where v was the cost before it.
+fn pop_state(
+    cells: &[u16],
+    d: Sizes,
+    at: usize,
+    m: usize,
+    r: u16,
+    v: u16,
+    values: &[u16; 4096],
+    flags: &[u8; 128],
+    q: usize,
+    events: &mut [u16; 32768],
+)
+    requires { ⌜ Holds d (now cells) ⌝ }
+    requires { ⌜ (q < d .s) × (at < 32) × (r ≤ limit) ⌝ }
+    requires { ⌜ length (now events) ≡ 32768 ⌝ }
+    ensures { λ _. ⌜ length (now (events .exit)) ≡ 32768 ⌝ }
+    ensures { λ _. ⌜ Step (ReducesState d (tablesOf (now (cells .entry))) at m r v (valueIn (now (values .entry)) (now (flags .entry))) q) (entryIn (now (events .entry))) (entryIn (now (events .exit))) ⌝ }
+{
+    if flags[q] == 0 {
+        return;
+    }
+    let t = d.t;
+    let row = q * 32;
+    let mut c: usize = 0;
+    while c < t {
+        let w = add(v, values[row + c]);
+        pop_at(cells, d, at, m, r, q, c, w, events);
+        c += 1;
+    }
+}
+
+fn pop_layer(
+    cells: &[u16],
+    d: Sizes,
+    at: usize,
+    m: usize,
+    r: u16,
+    v: u16,
+    values: &[u16; 4096],
+    flags: &[u8; 128],
+    events: &mut [u16; 32768],
+)
+    requires { ⌜ Holds d (now cells) ⌝ }
+    requires { ⌜ (at < 32) × (r ≤ limit) ⌝ }
+    requires { ⌜ length (now events) ≡ 32768 ⌝ }
+    ensures { λ _. ⌜ length (now (events .exit)) ≡ 32768 ⌝ }
+    ensures { λ _. ⌜ Step (ReducesLayer d (tablesOf (now (cells .entry))) at m r v (valueIn (now (values .entry)) (now (flags .entry)))) (entryIn (now (events .entry))) (entryIn (now (events .exit))) ⌝ }
+{
+    let s = d.s;
+    let mut q: usize = 0;
+    while q < s {
+        pop_state(cells, d, at, m, r, v, values, flags, q, events);
+        q += 1;
+    }
+}
+
+// State g on top under a, at the cost v: all that it pops within r, where the rows of `at` are those of the state below it.
+pub fn expand(
+    cells: &[u16],
+    d: Sizes,
+    table: &[u16],
+    most: usize,
+    at: usize,
+    r: u16,
+    g: usize,
+    a: usize,
+    v: u16,
+    events: &mut [u16; 32768],
+)
+    requires { ⌜ Holds d (now cells) ⌝ }
+    requires { ⌜ (g < d .s) × (a < d .t) × (at < 32) × (r ≤ limit) ⌝ }
+    requires { ⌜ room d ≤ length (now table) ⌝ }
+    requires { ⌜ Quiet (tablesOf (now cells)) (claimIn d (now table)) ⌝ }
+    requires { ⌜ Longest (tablesOf (now cells)) most ⌝ }
+    requires { ⌜ length (now events) ≡ 32768 ⌝ }
+    ensures { λ _. ⌜ length (now (events .exit)) ≡ 32768 ⌝ }
+    ensures { λ _. ⌜ Step (Expands (tablesOf (now (cells .entry))) (claimIn d (now (table .entry))) at g a v r) (entryIn (now (events .entry))) (entryIn (now (events .exit))) ⌝ }
+{
+    let mut values = [UNREACHED; 4096];
+    let mut flags = [0u8; 128];
+    let mut next = [UNREACHED; 4096];
+    let mut next_flags = [0u8; 128];
+    begin(&mut values, &mut flags, g, a);
+    let mut m: usize = 0;
+    while m < most {
+        pop_layer(cells, d, at, m, r, v, &values, &flags, events);
+        lengthen(cells, d, table, &values, &flags, &mut next, &mut next_flags);
+        values = next;
+        flags = next_flags;
+        m += 1;
+    }
+}
