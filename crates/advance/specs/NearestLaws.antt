@@ -1,17 +1,15 @@
 -- Laws of distances: each is that of a walk that consumes nothing to a state that shifts, and every such walk gives one. Assumes nothing.
-use mathlib.Core.List.{List, [], _∷_, _++_}
+use mathlib.Core.List.{List, [], _∷_}
 use mathlib.Core.Logic.{⊎-elim}
-use mathlib.Core.Path.{_≡_, refl, sym, _∙_, ap}
+use mathlib.Core.Path.{_≡_, refl, ap}
 use Prim.Native.Nat.{ℕ, zero, suc, _+_, _≤_, _<_}
 use native.Mathlib.Decide.{decLt}
 use native.Mathlib.Omega.{arith}
 use lib.ListN.{length, getD, length-append}
 use Rattle.book.specs.Tables.{Tables}
 use Rattle.book.specs.TablesLaws.{InRange}
-use Rattle.book.specs.declared.Action.the-variants.{Shift}
 use Rattle.walk.specs.Claims.{Claims, Crosses, Witnessed, Closed}
 use Rattle.walk.specs.ClaimsLaws.{claim-least}
-use Rattle.walk.specs.Cost.{unreached}
 use Rattle.walk.specs.Walk.{Walk, here, shifted, crossed, first}
 use Rattle.walk.specs.WalkLaws.{Opens, walk-first, walk-append}
 use Rattle.layers.specs.Crossing.{Quiet}

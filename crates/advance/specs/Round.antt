@@ -8,7 +8,7 @@ use lib.Dec.{ltb}
 use lib.ListN.{length, getD, set}
 use Rattle.book.specs.Tables.{Tables}
 use Rattle.walk.specs.Claims.{Claims}
-use Rattle.advance.specs.Nearest.{far, Shifts, Leads, Sound}
+use Rattle.advance.specs.Nearest.{far, Shifts, Leads, Sound, Nearest}
 
 -- how many entries are not the mark
 unfoldable pub numbered : List ℕ → ℕ
@@ -40,3 +40,9 @@ pub record Round (B : Tables) (claim : Claims) (x m i r : ℕ) (to : List ℕ) :
   pub complete : (q k X : ℕ) → Leads B claim x to q k X → (k < m) ⊎ ((k ≡ m) × (q < i)) → getD to q 0 ≤ suc k
   pub count : (q : ℕ) → q < B .states → getD to q 0 ≡ m → m + r < numbered to
   pub grown : 1 ≤ r → m + r < numbered to
+
+-- before round m, where the last one gave n: after one that gave nothing the distances are the least
+pub record Rounds (B : Tables) (claim : Claims) (x m n : ℕ) (to : List ℕ) : Type 0 where
+  pub round : Round B claim x m 0 0 to
+  pub low : ¬ (n ≡ 0) → m < 128
+  pub last : n ≡ 0 → Nearest B claim x to

@@ -11,11 +11,13 @@ use borrow.Author.Tests.{lt-ltb, le-ltb}
 use lib.Dec.{ltb}
 use lib.ListN.{length, getD, set, length-set, replicate, length-replicate, getD-replicate, List·getD-eq-default}
 use lib.Seq.{getD-set-same, getD-set-other}
-use Rattle.book.specs.Tables.{Tables}
-use Rattle.book.specs.TablesLaws.{InRange}
+use Rattle.book.specs.Tables.{Tables, tablesOf}
+use Rattle.book.specs.TablesLaws.{InRange, Holds, in-range}
+use Rattle.book.specs.declared.Sizes.{Sizes}
 use Rattle.walk.specs.Claims.{Claims}
-use Rattle.advance.specs.Nearest.{far, Shifts, Leads, Sound, Nearest}
-use Rattle.advance.specs.Round.{numbered, First, shifting, other, Started, Turn, kept, given, Round}
+use Rattle.layers.specs.CrossingLaws.{states-are}
+use Rattle.advance.specs.Nearest.{far, Shifts, Leads, Nearest}
+use Rattle.advance.specs.Round.{numbered, First, shifting, other, Started, Turn, kept, given, Round, Rounds}
 
 -- ---- the count of the numbered
 one : (v : ℕ) → v < far → _≡_ {A = ℕ} (cond (ltb v far) 1 0) 1
@@ -91,7 +93,7 @@ module _ {B : Tables} {claim : Claims} {x : ℕ} (to : List ℕ) (i v : ℕ) whe
 
 -- ---- in a round
 module _ {B : Tables} {claim : Claims} {x : ℕ} (range : InRange B) (fits : B .states ≤ 128) where
-  pub round-first : {i : ℕ} {to : List ℕ} → B .states ≤ i → Started B x i to → Round B claim x 0 0 0 to
+  round-first : {i : ℕ} {to : List ℕ} → B .states ≤ i → Started B x i to → Round B claim x 0 0 0 to
   round-first {i} {to} all s = record {
     sound = record { size = s .size; shifts = λ q h. shifts q (s .first q (omega arith)); onward = λ q m h e l. absurd (onward q m e l (s .first q (omega arith))); bounded = λ q. bounded q };
     most = λ q. ⊎-elim (λ h. inl (omega arith)) inr (zeroes q);
@@ -211,11 +213,11 @@ module _ {B : Tables} {claim : Claims} {x : ℕ} (range : InRange B) (fits : B .
           (λ (e, l). p .complete q k Y (leads-before to i (m + 1) inside (omega arith) b) (inr (e, omega arith)))
           h)
 
-  pub round-more : {m i r v : ℕ} {to to′ : List ℕ} → i < B .states → Round B claim x m i r to → Turn B claim x m i to v to′ → Round B claim x m (i + 1) (r + v) to′
-  round-more h p (kept f) = round-kept f p
-  round-more h p (given e a) = round-given h e a p
+  round-turn : {m i r v : ℕ} {to to′ : List ℕ} → i < B .states → Round B claim x m i r to → Turn B claim x m i to v to′ → Round B claim x m (i + 1) (r + v) to′
+  round-turn h p (kept f) = round-kept f p
+  round-turn h p (given e a) = round-given h e a p
 
-  pub round-next : {m i r : ℕ} {to : List ℕ} → m < 128 → B .states ≤ i → Round B claim x m i r to → Round B claim x (m + 1) 0 0 to
+  round-next : {m i r : ℕ} {to : List ℕ} → m < 128 → B .states ≤ i → Round B claim x m i r to → Round B claim x (m + 1) 0 0 to
   round-next {m} {i} {r} {to} low all p = record {
     sound = p .sound;
     most = λ q. ⊎-elim (λ h. inl (omega arith)) inr (p .most q);
@@ -234,15 +236,33 @@ module _ {B : Tables} {claim : Claims} {x : ℕ} (range : InRange B) (fits : B .
       count q e (no z) = omega (arith, p .grown (omega arith))
 
   -- a round that gave nothing is the last
-  pub round-last : {m i r : ℕ} {to : List ℕ} → r ≡ 0 → B .states ≤ i → Round B claim x m i r to → Nearest B claim x to
-  round-last {m} {i} {to} none all p = record { sound = p .sound; complete = λ q k X a h. complete q k X a h (decLt k m) }
+  round-last : {m i r : ℕ} {to : List ℕ} → r ≡ 0 → B .states ≤ i → Round B claim x m i r to → Nearest B claim x to
+  round-last {m} {i} {to} nothing all p = record { sound = p .sound; complete = λ q k X a h. complete q k X a h (decLt k m) }
     where
       complete : (q k X : ℕ) → Leads B claim x to q k X → k < far → Dec (k < m) → getD to q 0 ≤ suc k
       complete q k X a h (yes l) = p .complete q k X a (inl l)
       complete q k X a h (no l) =
-          let e : k ≡ m = ⊎-elim (λ y. omega (arith, a .distance)) (λ y. absurd (omega (arith, a .distance))) (p .idle none (a .target)) in
+          let e : k ≡ m = ⊎-elim (λ y. omega (arith, a .distance)) (λ y. absurd (omega (arith, a .distance))) (p .idle nothing (a .target)) in
           p .complete q k X a (inr (e, omega (arith, range .gotos q X (a .target) (a .transition) .0)))
 
 -- one that gave something is followed by a round below 128
-pub round-low : {B : Tables} {claim : Claims} {x m i r : ℕ} {to : List ℕ} → Round B claim x m i r to → 1 ≤ r → m + r < 128
-round-low {to} p h = omega (arith, p .grown h, numbered-most to, p .sound .size)
+round-low : {B : Tables} {claim : Claims} {x m i r : ℕ} {to : List ℕ} → Round B claim x m i r to → ¬ (r ≡ 0) → m + 1 < 128
+round-low {to} p n = omega (arith, p .grown (omega arith), numbered-most to, p .sound .size)
+
+-- ---- for the tables of a book
+module _ {d : Sizes} {cells : List ℕ} (h : Holds d cells) where
+  fit : tablesOf cells .states ≤ 128
+  fit = omega (arith, states-are h, h .small .states)
+
+  all : tablesOf cells .states ≤ d .s
+  all = omega (arith, states-are h)
+
+  pub round-more : {claim : Claims} {x m i r v : ℕ} {to to′ : List ℕ} → i < d .s → Round (tablesOf cells) claim x m i r to → Turn (tablesOf cells) claim x m i to v to′
+      → Round (tablesOf cells) claim x m (i + 1) (r + v) to′
+  round-more l p t = round-turn (in-range h) fit (omega (arith, states-are h)) p t
+
+  pub rounds-none : {claim : Claims} {x : ℕ} {to : List ℕ} → Started (tablesOf cells) x (d .s) to → Rounds (tablesOf cells) claim x 0 1 to
+  rounds-none s = record { round = round-first (in-range h) fit all s; low = λ n. omega arith; last = λ e. absurd (omega arith) }
+
+  pub rounds-more : {claim : Claims} {x m r : ℕ} {to : List ℕ} → m < 128 → Round (tablesOf cells) claim x m (d .s) r to → Rounds (tablesOf cells) claim x (m + 1) r to
+  rounds-more l p = record { round = round-next (in-range h) fit l all p; low = round-low p; last = λ e. round-last (in-range h) fit e all p }

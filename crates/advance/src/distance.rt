@@ -131,14 +131,7 @@ fn turn(
 }
 
 // Round m; answers how many got a distance.
-fn round(
-    cells: &[u16],
-    d: Sizes,
-    table: &[u16],
-    x: usize,
-    m: u8,
-    to: &mut [u8; 128],
-) -> usize
+fn round(cells: &[u16], d: Sizes, table: &[u16], x: usize, m: u8, to: &mut [u8; 128]) -> usize
     requires { ⌜ Holds d (now cells) ⌝ }
     requires { ⌜ (x < d .t) × (m < 128) × (room d ≤ length (now table)) ⌝ }
     requires { ⌜ Quiet (tablesOf (now cells)) (claimIn d (now table)) ⌝ }

@@ -9,21 +9,14 @@ ghost use Rattle.walk.specs.Claims.{Witnessed};
 ghost use Rattle.layers.specs.Crossing.{room, claimIn};
 ghost use Rattle.advance.specs.Nearest.{far, Shifts, Nearest};
 ghost use Rattle.advance.specs.Push.{Next, Advanced};
+use crate::distance::toward;
 use book::Action;
 use book::Sizes;
 use book::action_at;
 use book::goto_at;
-use crate::distance::toward;
 
 // The next state on the way from q to a shift.
-fn next_state(
-    cells: &[u16],
-    d: Sizes,
-    table: &[u16],
-    to: &[u8; 128],
-    x: usize,
-    q: usize,
-) -> u16
+fn next_state(cells: &[u16], d: Sizes, table: &[u16], to: &[u8; 128], x: usize, q: usize) -> u16
     requires { ⌜ Holds d (now cells) ⌝ }
     requires { ⌜ (x < d .t) × (q < d .s) × (room d ≤ length (now table)) ⌝ }
     requires { ⌜ Nearest (tablesOf (now cells)) (claimIn d (now table)) x (now to) ⌝ }

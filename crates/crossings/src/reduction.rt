@@ -151,7 +151,10 @@ pub fn reduce_layer(
     let mut n: usize = 0;
     let mut last: usize = 0;
     while last < s {
-        n = most(n, reduce_state(cells, d, table, q, a, m, values, flags, last));
+        n = most(
+            n,
+            reduce_state(cells, d, table, q, a, m, values, flags, last),
+        );
         last += 1;
     }
     n

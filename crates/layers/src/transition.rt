@@ -10,14 +10,14 @@ ghost use Rattle.walk.specs.WalkLaws.{Opens};
 ghost use Rattle.layers.specs.Crossing.{room, crossingRow, claimIn, Quiet};
 ghost use Rattle.layers.specs.Layer.{Sized, valueIn, Lengthened};
 ghost use Rattle.layers.specs.Step.{Step, Upto, ByShift, ByGoto, Leaves, LeavesState};
+use crate::row::level;
+use crate::row::relax;
+use crate::row::turn_on;
 use book::Action;
 use book::Sizes;
 use book::action_at;
 use book::goto_at;
 use book::production_length;
-use crate::row::level;
-use crate::row::relax;
-use crate::row::turn_on;
 use walk::UNREACHED;
 use walk::add;
 

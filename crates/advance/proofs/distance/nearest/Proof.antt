@@ -1,14 +1,10 @@
 -- `advance::distance::nearest` meets its contract. Assumes nothing.
-use mathlib.Core.Path.{_≡_}
-use Prim.Native.Nat.{_-_, _≤_, _<_}
+use Rattle.advance.specs.Round.{Rounds}
+use Rattle.advance.specs.RoundLaws.{rounds-none, rounds-more}
+use Prim.Native.Nat.{_-_, _≤_}
 use native.Mathlib.Omega.{arith}
 use Rattle.book.specs.Tables.{tablesOf}
-use Rattle.book.specs.TablesLaws.{in-range}
 use Rattle.layers.specs.Crossing.{claimIn}
-use Rattle.layers.specs.CrossingLaws.{states-are}
-use Rattle.advance.specs.Nearest.{Nearest}
-use Rattle.advance.specs.Round.{Round}
-use Rattle.advance.specs.RoundLaws.{round-first, round-next, round-last, round-low}
 use borrow.Author.Needs.{needs}
 use Rattle.advance.proofs.distance.nearest.Statement.{statement}
 use Rattle.advance.proofs.distance.nearest.Tie as tie
@@ -18,7 +14,7 @@ use Rattle.advance.proofs.distance.round.Reads as round-reads
 use Rattle.advance.proofs.distance.start.Reads as start-reads
 
 abbrev Inv-loop : tie.InvT-loop
-Inv-loop cells d table x to₀ m₀ n₀ to m n = Round (tablesOf cells) (claimIn d table) x m 0 0 to × (m ≤ 128) × (¬ (n ≡ 0) → m < 128) × (n ≡ 0 → Nearest (tablesOf cells) (claimIn d table) x to)
+Inv-loop cells d table x to₀ m₀ n₀ to m n = (m ≤ 128) × Rounds (tablesOf cells) (claimIn d table) x m n to
 
 abbrev μ-loop : tie.MeasureT-loop
 μ-loop cells d table x to₀ m₀ n₀ to m n = 128 - m
@@ -27,22 +23,22 @@ start-requires : tie.Need-start-requires Inv-loop μ-loop
 start-requires c κs = search needs
 
 loop-holds : tie.Need-loop-holds Inv-loop μ-loop
-loop-holds c = (round-first (in-range (c .before .before .before .before .pre .0)) (omega (arith, states-are (c .before .before .before .before .pre .0), c .before .before .before .before .pre .0 .small .states)) (omega (arith, states-are (c .before .before .before .before .pre .0))) (c .start .ensures), omega arith, λ h. omega arith, λ e. absurd (omega arith))
+loop-holds c = (omega arith, rounds-none (c .before .before .before .before .pre .0) (c .start .ensures))
 
 round-requires : tie.Need-round-requires Inv-loop μ-loop
-round-requires c κs = (c .before .before .before .before .before .before .before .pre .0, ((c .before .before .before .before .before .before .before .pre .1 .0 .0, c .before .before .loop .inv .2 (c .before .loop-test .taken), c .before .before .before .before .before .before .before .pre .1 .0 .1), (c .before .before .before .before .before .before .before .pre .1 .1, c .before .before .loop .inv .0)))
+round-requires c κs = (c .before .before .before .before .before .before .before .pre .0, ((c .before .before .before .before .before .before .before .pre .1 .0 .0, c .before .before .loop .inv .1 .low (c .before .loop-test .taken), c .before .before .before .before .before .before .before .pre .1 .0 .1), (c .before .before .before .before .before .before .before .pre .1 .1, c .before .before .loop .inv .1 .round)))
 
 add-m : tie.Need-add-m Inv-loop μ-loop
-add-m c = omega (arith, c .before .before .before .loop .inv .1)
+add-m c = omega (arith, c .before .before .before .loop .inv .0)
 
 loop-less : tie.Need-loop-less Inv-loop μ-loop
-loop-less c = omega (arith, c .before .before .before .loop .inv .2 (c .before .before .loop-test .taken))
+loop-less c = omega (arith, c .before .before .before .loop .inv .1 .low (c .before .before .loop-test .taken))
 
 loop-again : tie.Need-loop-again Inv-loop μ-loop
-loop-again c = (round-next (in-range (c .before .before .before .before .before .before .before .before .pre .0)) (omega (arith, states-are (c .before .before .before .before .before .before .before .before .pre .0), c .before .before .before .before .before .before .before .before .pre .0 .small .states)) (c .before .before .before .loop .inv .2 (c .before .before .loop-test .taken)) (omega (arith, states-are (c .before .before .before .before .before .before .before .before .pre .0))) (c .round .ensures), omega (arith, c .before .before .before .loop .inv .2 (c .before .before .loop-test .taken)), λ h. omega (arith, round-low (c .round .ensures) (omega (arith, h))), λ e. round-last (in-range (c .before .before .before .before .before .before .before .before .pre .0)) (omega (arith, states-are (c .before .before .before .before .before .before .before .before .pre .0), c .before .before .before .before .before .before .before .before .pre .0 .small .states)) e (omega (arith, states-are (c .before .before .before .before .before .before .before .before .pre .0))) (c .round .ensures))
+loop-again c = (omega (arith, c .before .before .before .loop .inv .1 .low (c .before .before .loop-test .taken)), rounds-more (c .before .before .before .before .before .before .before .before .pre .0) (c .before .before .before .loop .inv .1 .low (c .before .before .loop-test .taken)) (c .round .ensures))
 
 returns : tie.Need-returns Inv-loop μ-loop
-returns c = c .before .loop .inv .3 (c .loop-test .left)
+returns c = c .before .loop .inv .1 .last (c .loop-test .left)
 
 pub nearest-spec : {M : Type 1} → statement M
 nearest-spec =

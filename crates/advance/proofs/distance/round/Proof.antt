@@ -3,9 +3,7 @@ use Prim.Native.Nat.{_-_, _≤_}
 use native.Mathlib.Nat.{le-antisymm}
 use native.Mathlib.Omega.{arith}
 use Rattle.book.specs.Tables.{tablesOf}
-use Rattle.book.specs.TablesLaws.{in-range}
 use Rattle.layers.specs.Crossing.{claimIn}
-use Rattle.layers.specs.CrossingLaws.{states-are}
 use Rattle.advance.specs.Round.{Round}
 use Rattle.advance.specs.RoundLaws.{round-more}
 use borrow.Author.Needs.{needs}
@@ -37,7 +35,7 @@ loop-less : tie.Need-loop-less Inv-loop μ-loop
 loop-less c = search needs
 
 loop-again : tie.Need-loop-again Inv-loop μ-loop
-loop-again c = (omega arith, omega (arith, c .turn .ensures .0), round-more (in-range (c .before .before .before .before .before .before .pre .0)) (omega (arith, states-are (c .before .before .before .before .before .before .pre .0), c .before .before .before .before .before .before .pre .0 .small .states)) (omega (arith, states-are (c .before .before .before .before .before .before .pre .0), c .before .before .loop-test .taken)) (c .before .before .before .loop .inv .2) (c .turn .ensures .1))
+loop-again c = (omega arith, omega (arith, c .turn .ensures .0), round-more (c .before .before .before .before .before .before .pre .0) (c .before .before .loop-test .taken) (c .before .before .before .loop .inv .2) (c .turn .ensures .1))
 
 returns : tie.Need-returns Inv-loop μ-loop
 returns c = rw (le-antisymm (c .before .loop .inv .0) (c .loop-test .left)) at (c .before .loop .inv .2)

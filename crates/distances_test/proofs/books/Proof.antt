@@ -1,0 +1,57 @@
+-- `distances_test::books` meets its contract. Assumes nothing.
+use native.Mathlib.Omega.{arith}
+use mathlib.Core.Path.{_≡_, refl, _∙_, sym}
+use Prim.Native.Nat.{ℕ, _+_, _*_, _-_, _≤_, _<_}
+use lib.ListN.{length}
+use borrow.Author.Needs.{needs}
+use Rattle.distances_test.proofs.books.Statement.{statement}
+use Rattle.distances_test.proofs.books.Tie as tie
+use Rattle.distances_test.proofs.books.Reads as reads
+use Rattle.distances_test.proofs.books.Lts as lts
+use Rattle.distances_test.proofs.book_at.Reads as book-at-reads
+use Rattle.distances_test.proofs.say.line.Reads as line-reads
+
+abbrev Inv-loop : tie.InvT-loop
+Inv-loop bytes cells₀ at₀ t4 cells at = (length cells ≡ length cells₀)
+
+abbrev μ-loop : tie.MeasureT-loop
+μ-loop bytes cells₀ at₀ t4 cells at = length bytes - at
+
+loop-holds : tie.Need-loop-holds Inv-loop μ-loop
+loop-holds c = refl
+
+slice-aggregate-line : tie.Need-slice-aggregate-line Inv-loop μ-loop
+slice-aggregate-line c = search needs
+
+line-requires : tie.Need-line-requires Inv-loop μ-loop
+line-requires c κs = search needs
+
+book-at-requires : tie.Need-book-at-requires Inv-loop μ-loop
+book-at-requires c κs = search needs
+
+loop-less : tie.Need-loop-less Inv-loop μ-loop
+loop-less c = search needs
+
+loop-again : tie.Need-loop-again Inv-loop μ-loop
+loop-again c = search needs
+
+same-length : tie.Need-same-length Inv-loop μ-loop
+same-length c = c .before .loop .inv
+
+returns : tie.Need-returns Inv-loop μ-loop
+returns c = search needs
+
+pub books-spec : {M : Type 1} → statement M
+books-spec =
+    tie.close
+    (tie.spec
+    Inv-loop
+    μ-loop
+    loop-holds
+    slice-aggregate-line
+    line-requires
+    book-at-requires
+    loop-less
+    loop-again
+    same-length
+    returns)
