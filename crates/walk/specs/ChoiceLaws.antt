@@ -108,6 +108,9 @@ module _ {rank : ℕ → ℕ} {B : Tables} {s z r : ℕ} {u st : List ℕ} (i : 
           let reach = reaches-after i u t x v .1 (rw same at g) in
           (v, omega (arith, c .shortest (u ++ (x ∷ v)) reach, length-append u (x ∷ v)), reach)
 
+  pub within-terminal : (x : ℕ) → Within B s z st x (suc r) → (1 ≤ x) × (x < B .terminals)
+  within-terminal x k = let (v, l, p) = within-goes-on x k in terminal-at u x v (p .terminals)
+
   -- x is right where a word goes on with it and with no symbol before it in order
   pub chosen-next : (x : ℕ) → Within B s z st x (suc r) → ((y : ℕ) → Within B s z st y (suc r) → (y ≡ x) ⊎ (rank x < rank y))
       → Chosen rank (λ w. Reaches B w z s) (u ++ (x ∷ [])) r
