@@ -15,18 +15,21 @@ use Rattle.book.specs.declared.Action.{Action}
 use Rattle.book.specs.declared.Action.the-variants.{Error, Accept, Shift, Reduce}
 use Rattle.book.specs.declared.Sizes.{Sizes}
 use Rattle.machine.specs.MachineLaws.{clash}
+use Rattle.walk.specs.WalkLaws.{Opens, shifts}
 use Rattle.walk.specs.Cost.{unreached, plus}
-use Rattle.walk.specs.CostLaws.{plus-mono, plus-far-right}
+use Rattle.walk.specs.CostLaws.{plus-mono, plus-far-left, plus-far-right}
 use Rattle.walk.specs.Claims.{Claims, Claimed, Least}
-use Rattle.walk.specs.ClaimsLaws.{claimed-next}
+use Rattle.walk.specs.ClaimsLaws.{claimed-next, claimed-terminal, Start, nowhere, shift-first, goto-first, claimed-start}
 use Rattle.walk.specs.Layers.{Layer}
 use Rattle.walk.specs.LayersLaws.{layer-here, layer-elsewhere, layer-longer}
 use Rattle.layers.specs.ActionLaws.{reduce-below}
 use Rattle.layers.specs.Layer.{entryIn, Begun, Lengthened}
+use Rattle.layers.specs.Crossing.{Quiet}
 use Rattle.layers.specs.CrossingLaws.{terminals-are}
 use Rattle.layers.specs.Step.{Step, Upto}
 use Rattle.layers.specs.StepLaws.{step-none, step-as}
-use Rattle.search.specs.Waiting.{Narrow, rowOf, Expands, Lowered, Popped, Reduces, ReducesState, ReducesLayer, ExpandsAfter, Longest}
+use Rattle.search.specs.CompletesLaws.{near-right}
+use Rattle.search.specs.Waiting.{Narrow, rowOf, Expands, Lowered, Popped, Reduces, ReducesState, ReducesLayer, ExpandsAfter, Longest, Enough}
 
 -- the tables of a book are narrow
 pub holds-narrow : {d : Sizes} {cells : List ℕ} → Holds d cells → Narrow (tablesOf cells)
@@ -142,11 +145,28 @@ module _ {s : Sizes} {cells : List ℕ} (h : Holds s cells) {claim : Claims} (d 
 
 module _ (B : Tables) (claim : Claims) (d g a v r : ℕ) {most : ℕ} {K L : ℕ → ℕ → ℕ} where
   -- every layer that matters was looked at
-  pub step-expanded : Longest B most → Step (Upto (ExpandsAfter B claim d g a v r) most) K L → Step (Expands B claim d g a v r) K L
-  step-expanded long s = step-as
+  pub step-expanded : r < unreached → Enough B claim g a most → Step (Upto (ExpandsAfter B claim d g a v r) most) K L → Step (Expands B claim d g a v r) K L
+  step-expanded hr enough s = step-as
       (λ row c w (m, hm, (k, X, e, (p, i), l)). (k, X, e, p, l))
-      (λ row c w (k, X, e, p, l). (p .count, omega (arith, p .longer, long .bound (p .last) c (p .production) (p .action)), (k, X, e, (p, refl), l)))
+      (λ row c w (k, X, e, p, l). (p .count, enough .bound (p .walk) (near-right v (p .taken) (omega (arith, p .sum))) (p .action) (omega (arith, p .longer)), (k, X, e, (p, refl), l)))
       s
+
+-- which layers matter
+module _ {B : Tables} {claim : Claims} {g a : ℕ} where
+  pub enough-most : {most : ℕ} → Longest B most → Enough B claim g a most
+  enough-most {most} long = record { bound = λ w u e l. below w e l }
+    where
+      below : {x c m q p : ℕ} → Claimed B claim g a x c m q → B .act q c ≡ Reduce p → m < B .len p → m < most
+      below {c} {q} {p} w e l = omega (arith, long .bound q c p e)
+
+  unopened-none : {x c m q : ℕ} → Quiet B claim → ¬ Opens B g a → a < B .terminals → Start B claim g a x c m q → x < unreached → m ≡ 0
+  unopened-none k o h nowhere u = refl
+  unopened-none k o h (shift-first e w) u = absurd (o (shifts e))
+  unopened-none k o h (goto-first {b} {v} X e w) u = absurd (omega (arith, plus-far-left (claim g X a b) v (omega (arith, k .unopened {z = b} o h (claimed-terminal w) e))))
+
+  -- where no walk begins, only the first
+  pub enough-one : Quiet B claim → ¬ Opens B g a → Enough B claim g a 1
+  enough-one k o = record { bound = λ w u e l. let z = unopened-none k o (claimed-terminal w) (claimed-start w) u in omega arith }
 
 -- rows go by the depth's remainder
 pub step-depth : (B : Tables) (claim : Claims) (g a v r d at : ℕ) {K L : ℕ → ℕ → ℕ} → at ≡ d % 32 → Step (Expands B claim at g a v r) K L → Step (Expands B claim d g a v r) K L

@@ -4,6 +4,7 @@ pub mod Waiting
 pub mod WaitingLaws
 pub mod ExpandLaws
 pub mod Settle
+pub mod EventLaws
 pub mod SettleLaws
 pub mod Search
 pub mod SearchLaws

@@ -1,16 +1,15 @@
 -- Laws of the search: the stack top first, how the depths follow each other, and what its answer gives. Assumes nothing.
 use mathlib.Core.List.{List, [], _∷_, _++_, reverse, reverse-cons, reverse-append}
 use mathlib.Core.Path.{_≡_, sym, ap, _∙_}
-use Prim.Native.Nat.{ℕ, suc, _+_, _-_, _*_, _%_, _≤_, _<_}
+use Prim.Native.Nat.{ℕ, suc, _+_, _-_, _%_, _≤_, _<_}
 use native.Mathlib.Decide.{decLt}
 use native.Mathlib.Omega.{arith}
-use lib.ListN.{length, getD, take, drop, replicate, getD-replicate, length-reverse, length-drop, take-append-drop, List·getD-append}
+use lib.ListN.{length, getD, take, drop, length-reverse, length-drop, take-append-drop, List·getD-append}
 use lib.Seq.{drop-cons, drop-drop, drop-at, getD-drop, getD-at}
 use Rattle.book.specs.Tables.{Tables}
 use Rattle.machine.specs.Machine.{Steps}
 use Rattle.walk.specs.Cost.{unreached, plus}
 use Rattle.walk.specs.Claims.{Claims, Witnessed}
-use Rattle.layers.specs.Layer.{entryIn}
 use Rattle.layers.specs.Step.{Step}
 use Rattle.search.specs.Completes.{Completes, Stands, top}
 use Rattle.search.specs.CompletesLaws.{completes-stands-iff, stands-still, plus-none}
@@ -81,10 +80,10 @@ reached-still {B} {claim} {G} {x} {k} {g} {s} w a =
     (rw (zero, same) at (a .within), λ u. rw (stack-split s (a .some), ← below-drop s (a .some) k (a .index - 1) (a .kept)) (run u))
 
 -- ---- from depth to depth: h states of the stack are left below what was looked at
-pub record Descent (B : Tables) (claim : Claims) (G : ℕ → ℕ → ℕ) (s : List ℕ) (x r h : ℕ) (events : List ℕ) : Type 0 where
+pub record Descent (B : Tables) (claim : Claims) (G : ℕ → ℕ → ℕ) (s : List ℕ) (x r h : ℕ) (T : ℕ → ℕ → ℕ) : Type 0 where
   pub some : 1 ≤ length s
   pub left : h ≤ length s - 1
-  pub progress : Progress B claim G (topOf s) (belowOf s) x r (length s - 1 - h) events
+  pub progress : Progress B claim G (topOf s) (belowOf s) x r (length s - 1 - h) T
 
 module _ {B : Tables} {claim : Claims} {G : ℕ → ℕ → ℕ} {x r : ℕ} (s : List ℕ) (some : 1 ≤ length s) where
   -- the top completes
@@ -93,27 +92,23 @@ module _ {B : Tables} {claim : Claims} {G : ℕ → ℕ → ℕ} {x r : ℕ} (s 
       let same : q ≡ topOf s = f ∙ sym (top-is s some) in
       rw same (record { index = 0; first = x; cost = 0; some = some; stands = top; within = rw (← same) l; kept = omega arith })
 
-  pub descent-start : {q : ℕ} (events : List ℕ) → Narrow B → r < unreached → q ≡ getD s (length s - 1) 0 → r < plus 0 (G q x)
-      → Step (Expands B claim 0 q x 0 r) (entryIn (replicate 32768 unreached)) (entryIn events) → Descent B claim G s x r (length s - 1) events
-  unfolding entryIn
-  descent-start {q} events n hr f l step =
+  pub descent-start : {q : ℕ} {K T : ℕ → ℕ → ℕ} → Narrow B → r < unreached → q ≡ getD s (length s - 1) 0 → r < plus 0 (G q x) → ((row c : ℕ) → row < 1024 → c < 32 → K row c ≡ unreached)
+      → Step (Expands B claim 0 q x 0 r) K T → Descent B claim G s x r (length s - 1) T
+  descent-start {q} n hr f l blank step =
       let same : q ≡ topOf s = f ∙ sym (top-is s some) in
       let none : length s - 1 - (length s - 1) ≡ 0 = omega arith in
-      record { some = some; left = omega arith; progress = rw none (progress-start n (belowOf s) (replicate 32768 unreached) events hr blank (rw (← same) l) (rw same at step)) }
-    where
-      blank : (row c : ℕ) → row < 1024 → c < 32 → entryIn (replicate 32768 unreached) row c ≡ unreached
-      blank row c hr hc = getD-replicate {A = ℕ} 32768 (row * 32 + c) unreached 0 (omega arith)
+      record { some = some; left = omega arith; progress = rw none (progress-start n (belowOf s) hr blank (rw (← same) l) (rw same at step)) }
 
-module _ {B : Tables} {claim : Claims} {G : ℕ → ℕ → ℕ} {s : List ℕ} {x r h : ℕ} {events : List ℕ} (d : Descent B claim G s x r h events) where
-  descent-here : {q at : ℕ} → 1 ≤ h → q ≡ getD s (h - 1) 0 → at ≡ (length s - 1 - h) % 32 → Here B claim G r q at (topOf s) x (length s - 1 - h) (belowOf s) events
+module _ {B : Tables} {claim : Claims} {G : ℕ → ℕ → ℕ} {s : List ℕ} {x r h : ℕ} {T : ℕ → ℕ → ℕ} (d : Descent B claim G s x r h T) where
+  descent-here : {q at : ℕ} → 1 ≤ h → q ≡ getD s (h - 1) 0 → at ≡ (length s - 1 - h) % 32 → Here B claim G r q at (topOf s) x (length s - 1 - h) (belowOf s) T
   descent-here l e f = record { row = f; inside = omega (arith, below-length s (d .some)); state = below-at s (d .some) h l (d .left) ∙ sym e; progress = d .progress }
 
-  pub descent-more : {q at e : ℕ} {new : List ℕ} → 1 ≤ h → q ≡ getD s (h - 1) 0 → at ≡ (length s - 1 - h) % 32 → e ≡ 0 → Settled B claim G r q at events new e → Descent B claim G s x r (h - 1) new
+  pub descent-more : {q at e : ℕ} {new : ℕ → ℕ → ℕ} → 1 ≤ h → q ≡ getD s (h - 1) 0 → at ≡ (length s - 1 - h) % 32 → e ≡ 0 → Settled B claim G r q at T new e → Descent B claim G s x r (h - 1) new
   descent-more l i j z t =
       let next : length s - 1 - (h - 1) ≡ suc (length s - 1 - h) = omega (arith, d .left) in
       record { some = d .some; left = omega (arith, d .left); progress = rw next (t .none z (topOf s) x (length s - 1 - h) (belowOf s) (descent-here l i j)) }
 
-  pub descent-hit : {q at e : ℕ} {new : List ℕ} → 1 ≤ h → q ≡ getD s (h - 1) 0 → at ≡ (length s - 1 - h) % 32 → ¬ (e ≡ 0) → Settled B claim G r q at events new e → Reached B claim G s x r h (e - 1)
+  pub descent-hit : {q at e : ℕ} {new : ℕ → ℕ → ℕ} → 1 ≤ h → q ≡ getD s (h - 1) 0 → at ≡ (length s - 1 - h) % 32 → ¬ (e ≡ 0) → Settled B claim G r q at T new e → Reached B claim G s x r h (e - 1)
   descent-hit {e} l i j z t =
       let (c, v, stands, within) = t .some (e - 1) (omega arith) (topOf s) x (length s - 1 - h) (belowOf s) (descent-here l i j) in
       record { index = suc (length s - 1 - h); first = c; cost = v; some = d .some; stands = stands; within = within; kept = omega (arith, d .left, d .some) }

@@ -1,15 +1,17 @@
 -- The gotos that wait while the search works down a stack: a table of their costs, and what is known at each depth. Assumes nothing.
+use mathlib.Core.Bool.{cond}
 use mathlib.Core.List.{List}
 use mathlib.Core.Logic.{_⊎_}
 use mathlib.Core.Path.{_≡_}
-use Prim.Native.Nat.{ℕ, suc, _+_, _-_, _*_, _%_, _≤_, _<_}
+use Prim.Native.Nat.{ℕ, suc, _+_, _-_, _*_, _/_, _%_, _≤_, _<_}
+use lib.Dec.{eqb}
 use lib.ListN.{getD}
 use Rattle.book.specs.Tables.{Tables}
 use Rattle.book.specs.TablesLaws.{InRange}
 use Rattle.book.specs.declared.Action.the-variants.{Reduce}
 use Rattle.book.specs.declared.Sizes.{Sizes}
 use Rattle.walk.specs.Cost.{unreached, plus}
-use Rattle.walk.specs.Claims.{Claims}
+use Rattle.walk.specs.Claims.{Claims, Claimed}
 use Rattle.layers.specs.Layer.{entryIn}
 use Rattle.layers.specs.Step.{Upto}
 use Rattle.search.specs.Completes.{Pops, Stands, Event}
@@ -24,8 +26,12 @@ pub record Narrow (B : Tables) : Type 0 where
 abbrev pub rowOf : ℕ → ℕ → ℕ
 rowOf d X = d % 32 * 32 + X
 
-unfoldable pub waitingIn : List ℕ → ℕ → ℕ → ℕ → ℕ
-waitingIn events d X c = entryIn events (rowOf d X) c
+unfoldable pub waitingIn : (ℕ → ℕ → ℕ) → ℕ → ℕ → ℕ → ℕ
+waitingIn T d X c = T (rowOf d X) c
+
+-- such a table in an array, with a flag for each of the 32: where it is off, all of its rows are unreached
+unfoldable pub eventIn : List ℕ → List ℕ → ℕ → ℕ → ℕ
+eventIn events flags row c = cond (eqb (getD flags (row / 32) 0) 0) unreached (entryIn events row c)
 
 -- candidates for the table: what the machine pops from g under b, at the cost u, over what is left below the first d states, within r
 abbrev pub Expands : Tables → Claims → ℕ → ℕ → ℕ → ℕ → ℕ → ℕ → ℕ → ℕ → Type 0
@@ -33,19 +39,19 @@ Expands B claim d g b u r row c w = (k X : ℕ) × (row ≡ rowOf (d + k) X) × 
 
 -- before depth j is looked at: every pop from above that comes to j or lower is in the table if it is within r, nothing from above completes
 -- within r, and the table has nothing else
-pub record Progress (B : Tables) (claim : Claims) (G : ℕ → ℕ → ℕ) (q : ℕ) (st : List ℕ) (a r j : ℕ) (events : List ℕ) : Type 0 where
+pub record Progress (B : Tables) (claim : Claims) (G : ℕ → ℕ → ℕ) (q : ℕ) (st : List ℕ) (a r j : ℕ) (T : ℕ → ℕ → ℕ) : Type 0 where
   pub below : {i g b u k X c w : ℕ} → i ≤ j → Stands B claim q st a i g b u → Pops B claim g b u k X c w → w ≤ r → j ≤ i - 1 + k
-      → waitingIn events (i - 1 + k) X c ≤ w
+      → waitingIn T (i - 1 + k) X c ≤ w
   pub missed : {i g b u : ℕ} → i ≤ j → Stands B claim q st a i g b u → r < plus u (G g b)
   pub attained : (d X c : ℕ) → X < 32 → c < 32 → j ≤ d → d < j + 32
-      → (waitingIn events d X c ≡ unreached) ⊎ (Event B claim q st a d X c (waitingIn events d X c) × (waitingIn events d X c ≤ r))
+      → (waitingIn T d X c ≡ unreached) ⊎ (Event B claim q st a d X c (waitingIn T d X c) × (waitingIn T d X c ≤ r))
 
 -- while depth j is looked at: `done` has the cost at which the goto under X with c next was last followed; what is popped from there is in
 -- the table, and it did not complete within r
-pub record Settling (B : Tables) (claim : Claims) (G : ℕ → ℕ → ℕ) (q : ℕ) (st : List ℕ) (a r j : ℕ) (events done : List ℕ) : Type 0 where
-  pub progress : Progress B claim G q st a r j events
+pub record Settling (B : Tables) (claim : Claims) (G : ℕ → ℕ → ℕ) (q : ℕ) (st : List ℕ) (a r j : ℕ) (T : ℕ → ℕ → ℕ) (done : List ℕ) : Type 0 where
+  pub progress : Progress B claim G q st a r j T
   pub seen : (X c : ℕ) {g k Y z w : ℕ} → X < 32 → c < 32 → B .goto (getD st j 0) X ≡ suc g → entryIn done X c < unreached
-      → Pops B claim g c (entryIn done X c) k Y z w → w ≤ r → waitingIn events (j + k) Y z ≤ w
+      → Pops B claim g c (entryIn done X c) k Y z w → w ≤ r → waitingIn T (j + k) Y z ≤ w
   pub refused : (X c : ℕ) {g : ℕ} → X < 32 → c < 32 → B .goto (getD st j 0) X ≡ suc g → entryIn done X c < unreached → r < plus (entryIn done X c) (G g c)
   pub most : (X c : ℕ) → X < 32 → c < 32 → entryIn done X c ≤ unreached
 
@@ -76,3 +82,7 @@ ExpandsAfter B claim d g b u r m row c w = (k X : ℕ) × (row ≡ rowOf (d + k)
 -- no reduction is of more than `most` states
 pub record Longest (B : Tables) (most : ℕ) : Type 0 where
   pub bound : (q a p : ℕ) → B .act q a ≡ Reduce p → B .len p ≤ most
+
+-- from g under a no walk of n transitions or more, at a cost that counts, ends in a reduction that pops more
+pub record Enough (B : Tables) (claim : Claims) (g a n : ℕ) : Type 0 where
+  pub bound : {x c m q p : ℕ} → Claimed B claim g a x c m q → x < unreached → B .act q c ≡ Reduce p → m < B .len p → m < n

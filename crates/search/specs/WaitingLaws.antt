@@ -3,7 +3,7 @@
 use mathlib.Core.List.{List, _∷_}
 use mathlib.Core.Logic.{_⊎_, inl, inr, ⊎-elim}
 use mathlib.Core.Path.{_≡_, refl, sym, _∙_}
-use Prim.Native.Nat.{ℕ, suc, _+_, _-_, _*_, _%_, _≤_, _<_}
+use Prim.Native.Nat.{ℕ, suc, _+_, _-_, _*_, _/_, _%_, _≤_, _<_}
 use native.Mathlib.Decide.{decLt, ℕ-discrete}
 use native.Mathlib.Nat.{le-refl, le-trans}
 use native.Mathlib.Omega.{arith}
@@ -15,7 +15,6 @@ use Rattle.walk.specs.CostLaws.{plus-mono, plus-near, plus-far-left, plus-far-r
 use Rattle.walk.specs.Claims.{Claims}
 use Rattle.walk.specs.ClaimsLaws.{claimed-next}
 use Rattle.layers.specs.Layer.{entryIn}
-use Rattle.layers.specs.LayerLaws.{Cleared}
 use Rattle.layers.specs.Step.{Step}
 use Rattle.search.specs.Completes.{Completes, Pops, Stands, top, falls, Event}
 use Rattle.search.specs.CompletesLaws.{event-stands, completes-stands-iff}
@@ -24,14 +23,6 @@ use Rattle.search.specs.Waiting.{Narrow, rowOf, waitingIn, Expands, Prog
 -- equal rows are of one depth and one nonterminal
 pub row-one : (j d k X Y : ℕ) → X < 32 → Y < 32 → k < 32 → j ≤ d → d < j + 32 → rowOf d X ≡ rowOf (j + k) Y → (d ≡ j + k) × (X ≡ Y)
 row-one j d k X Y hX hY hk l m e = (omega arith, omega arith)
-
--- the rows of a depth that has been left are not those of a depth still to come
-row-apart : (j d X c : ℕ) → j < d → d < j + 32 → X < 32 → c < 32 → (rowOf d X * 32 + c < j % 32 * 1024) ⊎ (j % 32 * 1024 + 1024 ≤ rowOf d X * 32 + c)
-row-apart j d X c l m hX hc = go (decLt (d % 32) (j % 32))
-  where
-    go : Dec (d % 32 < j % 32) → (rowOf d X * 32 + c < j % 32 * 1024) ⊎ (j % 32 * 1024 + 1024 ≤ rowOf d X * 32 + c)
-    go (yes s) = inl (omega arith)
-    go (no s) = inr (omega arith)
 
 -- a part of a sum is at most the sum
 part-within : (x y r : ℕ) → r < unreached → plus x y ≤ r → x ≤ r
@@ -66,9 +57,9 @@ module _ {B : Tables} {claim : Claims} {q a : ℕ} {st : List ℕ} where
   stands-depth (falls d s p e l j) = l
 
 -- the table is unreached everywhere, and the top was expanded into it
-module _ {B : Tables} {claim : Claims} (n : Narrow B) {G : ℕ → ℕ → ℕ} {q a r : ℕ} (st blank events : List ℕ) (hr : r < unreached) where
-  pub progress-start : ((row c : ℕ) → row < 1024 → c < 32 → entryIn blank row c ≡ unreached) → r < plus 0 (G q a)
-      → Step (Expands B claim 0 q a 0 r) (entryIn blank) (entryIn events) → Progress B claim G q st a r 0 events
+module _ {B : Tables} {claim : Claims} (n : Narrow B) {G : ℕ → ℕ → ℕ} {q a r : ℕ} (st : List ℕ) {K T : ℕ → ℕ → ℕ} (hr : r < unreached) where
+  pub progress-start : ((row c : ℕ) → row < 1024 → c < 32 → K row c ≡ unreached) → r < plus 0 (G q a)
+      → Step (Expands B claim 0 q a 0 r) K T → Progress B claim G q st a r 0 T
   unfolding waitingIn
   progress-start none miss step = record {
     below = λ h s p l m. low h s p l;
@@ -76,7 +67,7 @@ module _ {B : Tables} {claim : Claims} (n : Narrow B) {G : ℕ → ℕ → ℕ} 
     attained = λ d X c hX hc l m. kept d X c hX hc m (step .attained (rowOf d X) c hc);
   }
     where
-      low : {i g b u k X c w : ℕ} → i ≤ 0 → Stands B claim q st a i g b u → Pops B claim g b u k X c w → w ≤ r → entryIn events (rowOf (i - 1 + k) X) c ≤ w
+      low : {i g b u k X c w : ℕ} → i ≤ 0 → Stands B claim q st a i g b u → Pops B claim g b u k X c w → w ≤ r → T (rowOf (i - 1 + k) X) c ≤ w
       low {i} {k} {X} {c} {w} h s p l =
           let (ei, eg, eb, eu) = at-top h s in
           step .below (rowOf (i - 1 + k) X) c w (k, X, omega arith, pops-as eg eb eu refl p, l) (pops-row n p .2) (omega arith)
@@ -84,17 +75,17 @@ module _ {B : Tables} {claim : Claims} (n : Narrow B) {G : ℕ → ℕ → ℕ} 
       no-more : {i g b u : ℕ} → i ≤ 0 → Stands B claim q st a i g b u → r < plus u (G g b)
       no-more h s = let (ei, eg, eb, eu) = at-top h s in rw (eg, eb, eu) miss
 
-      kept : (d X c : ℕ) → X < 32 → c < 32 → d < 0 + 32 → (entryIn events (rowOf d X) c ≡ entryIn blank (rowOf d X) c) ⊎ Expands B claim 0 q a 0 r (rowOf d X) c (entryIn events (rowOf d X) c)
-          → (entryIn events (rowOf d X) c ≡ unreached) ⊎ (Event B claim q st a d X c (entryIn events (rowOf d X) c) × (entryIn events (rowOf d X) c ≤ r))
+      kept : (d X c : ℕ) → X < 32 → c < 32 → d < 0 + 32 → (T (rowOf d X) c ≡ K (rowOf d X) c) ⊎ Expands B claim 0 q a 0 r (rowOf d X) c (T (rowOf d X) c)
+          → (T (rowOf d X) c ≡ unreached) ⊎ (Event B claim q st a d X c (T (rowOf d X) c) × (T (rowOf d X) c ≤ r))
       kept d X c hX hc hd (inl e) = inl (e ∙ none (rowOf d X) c (omega arith) hc)
       kept d X c hX hc hd (inr (k, Y, er, p, l)) =
           let (hk, hY, hz) = pops-row n p in
           let (ed, eX) = row-one 0 d k X Y hX hY hk (omega arith) hd er in
           inr (record { index = 0; state = q; first = a; cost = 0; more = k; stands = top; pops = pops-as refl refl refl (sym eX) p; depth = omega arith }, l)
 
-module _ {B : Tables} {claim : Claims} {G : ℕ → ℕ → ℕ} {q a r j : ℕ} {st events : List ℕ} where
+module _ {B : Tables} {claim : Claims} {G : ℕ → ℕ → ℕ} {q a r j : ℕ} {st : List ℕ} {T : ℕ → ℕ → ℕ} where
   -- nothing at this depth was followed yet
-  pub settling-none : Progress B claim G q st a r j events → Settling B claim G q st a r j events (replicate 1024 unreached)
+  pub settling-none : Progress B claim G q st a r j T → Settling B claim G q st a r j T (replicate 1024 unreached)
   unfolding entryIn
   settling-none p = record {
     progress = p;
@@ -107,17 +98,17 @@ module _ {B : Tables} {claim : Claims} {G : ℕ → ℕ → ℕ} {q a r j : ℕ}
       at X c hX hc = getD-replicate {A = ℕ} 1024 (X * 32 + c) unreached 0 (omega arith)
 
   -- at the end of the stack
-  pub progress-done : r < unreached → length st ≤ j → Progress B claim G q st a r j events → (v : ℕ) → Completes B claim G (q ∷ st) a v → v ≤ r → ⊥
+  pub progress-done : r < unreached → length st ≤ j → Progress B claim G q st a r j T → (v : ℕ) → Completes B claim G (q ∷ st) a v → v ≤ r → ⊥
   progress-done hr h p v c l = let (i, g, b, u, s, m) = completes-stands-iff hr .0 (v, c, l) in omega (arith, p .missed (le-trans (stands-depth s) h) s)
 
 -- one goto is followed, or is none
-module _ {B : Tables} {claim : Claims} {G : ℕ → ℕ → ℕ} {q a r j : ℕ} {st events done : List ℕ} (X c v : ℕ) (s : Settling B claim G q st a r j events done)
-    (hX : X < 32) (hc : c < 32) (size : length done ≡ 1024) (ev : v ≡ waitingIn events j X c) (low : v < entryIn done X c) where
-  settling-set : {events′ : List ℕ} → Progress B claim G q st a r j events′ → ((d Y z : ℕ) → z < 32 → waitingIn events′ d Y z ≤ waitingIn events d Y z)
-      → ((g k Y z w : ℕ) → B .goto (getD st j 0) X ≡ suc g → Pops B claim g c v k Y z w → w ≤ r → waitingIn events′ (j + k) Y z ≤ w)
-      → ((g : ℕ) → B .goto (getD st j 0) X ≡ suc g → r < plus v (G g c)) → Narrow B → Settling B claim G q st a r j events′ (set done (X * 32 + c) v)
+module _ {B : Tables} {claim : Claims} {G : ℕ → ℕ → ℕ} {q a r j : ℕ} {st done : List ℕ} {T : ℕ → ℕ → ℕ} (X c v : ℕ) (s : Settling B claim G q st a r j T done)
+    (hX : X < 32) (hc : c < 32) (size : length done ≡ 1024) (ev : v ≡ waitingIn T j X c) (low : v < entryIn done X c) where
+  settling-set : {T′ : ℕ → ℕ → ℕ} → Progress B claim G q st a r j T′ → ((d Y z : ℕ) → z < 32 → waitingIn T′ d Y z ≤ waitingIn T d Y z)
+      → ((g k Y z w : ℕ) → B .goto (getD st j 0) X ≡ suc g → Pops B claim g c v k Y z w → w ≤ r → waitingIn T′ (j + k) Y z ≤ w)
+      → ((g : ℕ) → B .goto (getD st j 0) X ≡ suc g → r < plus v (G g c)) → Narrow B → Settling B claim G q st a r j T′ (set done (X * 32 + c) v)
   unfolding entryIn
-  settling-set {events′} p fall new miss n = record {
+  settling-set {T′} p fall new miss n = record {
     progress = p;
     seen = λ X′ c′ hX′ hc′ g u p l. seen X′ c′ hX′ hc′ g u p l (ℕ-discrete (X′ * 32 + c′) (X * 32 + c));
     refused = λ X′ c′ hX′ hc′ g u. refused X′ c′ hX′ hc′ g u (ℕ-discrete (X′ * 32 + c′) (X * 32 + c));
@@ -128,7 +119,7 @@ module _ {B : Tables} {claim : Claims} {G : ℕ → ℕ → ℕ} {q a r j : ℕ}
       here k e = rw e (getD-set-same done (X * 32 + c) v 0 (omega arith))
 
       seen : (X′ c′ : ℕ) {g k Y z w : ℕ} → X′ < 32 → c′ < 32 → B .goto (getD st j 0) X′ ≡ suc g → getD (set done (X * 32 + c) v) (X′ * 32 + c′) 0 < unreached
-          → Pops B claim g c′ (getD (set done (X * 32 + c) v) (X′ * 32 + c′) 0) k Y z w → w ≤ r → Dec (X′ * 32 + c′ ≡ X * 32 + c) → waitingIn events′ (j + k) Y z ≤ w
+          → Pops B claim g c′ (getD (set done (X * 32 + c) v) (X′ * 32 + c′) 0) k Y z w → w ≤ r → Dec (X′ * 32 + c′ ≡ X * 32 + c) → waitingIn T′ (j + k) Y z ≤ w
       seen X′ c′ {g = g′} {k} {Y} {z} {w} hX′ hc′ g u p l (yes e) =
           let eX : X′ ≡ X = omega arith in
           let ec : c′ ≡ c = omega arith in
@@ -152,7 +143,7 @@ module _ {B : Tables} {claim : Claims} {G : ℕ → ℕ → ℕ} {q a r j : ℕ}
       most X′ c′ hX′ hc′ (no m) = omega (arith, getD-set-other done (X * 32 + c) (X′ * 32 + c′) v 0 m, s .most X′ c′ hX′ hc′)
 
   -- there is no such goto
-  pub settling-pass : Narrow B → B .goto (getD st j 0) X ≡ 0 → Settling B claim G q st a r j events (set done (X * 32 + c) v)
+  pub settling-pass : Narrow B → B .goto (getD st j 0) X ≡ 0 → Settling B claim G q st a r j T (set done (X * 32 + c) v)
   settling-pass n none = settling-set (s .progress) (λ d Y z h. le-refl _) (λ g k Y z w e p l. absurd (omega arith)) (λ g e. absurd (omega arith)) n
 
   -- the goto is one that waits
@@ -162,10 +153,10 @@ module _ {B : Tables} {claim : Claims} {G : ℕ → ℕ → ℕ} {q a r j : ℕ}
       (λ x. rw ev x)
       (s .progress .attained j X c hX hc (le-refl j) (omega arith))
 
-  pub settling-follow : {g : ℕ} {events′ : List ℕ} → Narrow B → r < unreached → j < length st → B .goto (getD st j 0) X ≡ suc g → r < plus v (G g c)
-      → Step (Expands B claim j g c v r) (entryIn events) (entryIn events′) → Settling B claim G q st a r j events′ (set done (X * 32 + c) v)
+  pub settling-follow : {g : ℕ} {T′ : ℕ → ℕ → ℕ} → Narrow B → r < unreached → j < length st → B .goto (getD st j 0) X ≡ suc g → r < plus v (G g c)
+      → Step (Expands B claim j g c v r) T T′ → Settling B claim G q st a r j T′ (set done (X * 32 + c) v)
   unfolding waitingIn
-  settling-follow {g} {events′} n hr hj there miss step = settling-set
+  settling-follow {g} {T′} n hr hj there miss step = settling-set
       (record {
         below = λ h t p l m. below h t p l m;
         missed = s .progress .missed;
@@ -176,18 +167,18 @@ module _ {B : Tables} {claim : Claims} {G : ℕ → ℕ → ℕ} {q a r j : ℕ}
       (λ g′ i. let e : g′ ≡ g = omega arith in rw e miss)
       n
     where
-      below : {i g b u k X c w : ℕ} → i ≤ j → Stands B claim q st a i g b u → Pops B claim g b u k X c w → w ≤ r → j ≤ i - 1 + k → entryIn events′ (rowOf (i - 1 + k) X) c ≤ w
+      below : {i g b u k X c w : ℕ} → i ≤ j → Stands B claim q st a i g b u → Pops B claim g b u k X c w → w ≤ r → j ≤ i - 1 + k → T′ (rowOf (i - 1 + k) X) c ≤ w
       below {i} {k} {X} {c} h t p l m = le-trans (step .fall (rowOf (i - 1 + k) X) c (pops-row n p .2)) (s .progress .below h t p l m)
 
-      new : (g′ k Y z w : ℕ) → B .goto (getD st j 0) X ≡ suc g′ → Pops B claim g′ c v k Y z w → w ≤ r → entryIn events′ (rowOf (j + k) Y) z ≤ w
+      new : (g′ k Y z w : ℕ) → B .goto (getD st j 0) X ≡ suc g′ → Pops B claim g′ c v k Y z w → w ≤ r → T′ (rowOf (j + k) Y) z ≤ w
       new g′ k Y z w i p l =
           let e : g′ ≡ g = omega arith in
           let hz = pops-row n p .2 in
           step .below (rowOf (j + k) Y) z w (k, Y, refl, pops-as e refl refl refl p, l) hz (omega arith)
 
       attained : (d Y z : ℕ) → Y < 32 → z < 32 → j ≤ d → d < j + 32
-          → (entryIn events′ (rowOf d Y) z ≡ entryIn events (rowOf d Y) z) ⊎ Expands B claim j g c v r (rowOf d Y) z (entryIn events′ (rowOf d Y) z)
-          → (entryIn events′ (rowOf d Y) z ≡ unreached) ⊎ (Event B claim q st a d Y z (entryIn events′ (rowOf d Y) z) × (entryIn events′ (rowOf d Y) z ≤ r))
+          → (T′ (rowOf d Y) z ≡ T (rowOf d Y) z) ⊎ Expands B claim j g c v r (rowOf d Y) z (T′ (rowOf d Y) z)
+          → (T′ (rowOf d Y) z ≡ unreached) ⊎ (Event B claim q st a d Y z (T′ (rowOf d Y) z) × (T′ (rowOf d Y) z ≤ r))
       attained d Y z hY hz l m (inl e) = rw e (s .progress .attained d Y z hY hz l m)
       attained d Y z hY hz l m (inr (k, Y′, er, p, le)) =
           let (hk, hY′, hz′) = pops-row n p in
@@ -207,17 +198,17 @@ module _ {B : Tables} {claim : Claims} {G : ℕ → ℕ → ℕ} {q a r j : ℕ}
           )
 
 -- every goto that waits at depth j was followed at its cost: on to the next depth, whose last row is that of depth j, cleared
-module _ {B : Tables} {claim : Claims} {G : ℕ → ℕ → ℕ} {q a r j : ℕ} {st events done : List ℕ} (n : Narrow B) (hr : r < unreached) (s : Settling B claim G q st a r j events done)
-    (quiet : (X c : ℕ) → X < B .nonterminals → c < B .terminals → entryIn done X c ≤ waitingIn events j X c) where
-  followed : {g c w : ℕ} (X : ℕ) → c < B .terminals → B .goto (getD st j 0) X ≡ suc g → waitingIn events j X c ≤ w → entryIn done X c ≤ w
+module _ {B : Tables} {claim : Claims} {G : ℕ → ℕ → ℕ} {q a r j : ℕ} {st done : List ℕ} {T : ℕ → ℕ → ℕ} (n : Narrow B) (hr : r < unreached) (s : Settling B claim G q st a r j T done)
+    (quiet : (X c : ℕ) → X < B .nonterminals → c < B .terminals → entryIn done X c ≤ waitingIn T j X c) where
+  followed : {g c w : ℕ} (X : ℕ) → c < B .terminals → B .goto (getD st j 0) X ≡ suc g → waitingIn T j X c ≤ w → entryIn done X c ≤ w
   followed {g} {c} X hc e h = let (x, y, z) = n .range .gotos (getD st j 0) X g e in le-trans (quiet X c y hc) h
 
   -- what is popped from one more stand
-  covered-more : {d g c w k X′ c′ w′ : ℕ} (X : ℕ) → Stands B claim q st a (suc d) g c w → d ≤ j → X < 32 → c < B .terminals → B .goto (getD st d 0) X ≡ suc g → (d ≡ j → waitingIn events j X c ≤ w)
-      → Pops B claim g c w k X′ c′ w′ → w′ ≤ r → j ≤ suc d - 1 + k → waitingIn events (suc d - 1 + k) X′ c′ ≤ w′
+  covered-more : {d g c w k X′ c′ w′ : ℕ} (X : ℕ) → Stands B claim q st a (suc d) g c w → d ≤ j → X < 32 → c < B .terminals → B .goto (getD st d 0) X ≡ suc g → (d ≡ j → waitingIn T j X c ≤ w)
+      → Pops B claim g c w k X′ c′ w′ → w′ ≤ r → j ≤ suc d - 1 + k → waitingIn T (suc d - 1 + k) X′ c′ ≤ w′
   covered-more {d} {g} {c} {w} {k} {X′} {c′} {w′} X t h hX hc e low p l m = go (decLt d j)
     where
-      go : Dec (d < j) → waitingIn events (suc d - 1 + k) X′ c′ ≤ w′
+      go : Dec (d < j) → waitingIn T (suc d - 1 + k) X′ c′ ≤ w′
       go (yes f) = s .progress .below f t p l m
       go (no f) =
           let same : d ≡ j = omega arith in
@@ -228,7 +219,7 @@ module _ {B : Tables} {claim : Claims} {G : ℕ → ℕ → ℕ} {q a r j : ℕ}
           let near = part-within w (p .taken) r hr (rw (← p .sum) l) in
           rw here (le-trans (s .seen X c hX (omega (arith, n .terminals)) there (omega arith) (pops-from (entryIn done X c) p) (le-trans le l)) le)
 
-  covered : {i g b u k X c w : ℕ} → Stands B claim q st a i g b u → i ≤ suc j → Pops B claim g b u k X c w → w ≤ r → j ≤ i - 1 + k → waitingIn events (i - 1 + k) X c ≤ w
+  covered : {i g b u k X c w : ℕ} → Stands B claim q st a i g b u → i ≤ suc j → Pops B claim g b u k X c w → w ≤ r → j ≤ i - 1 + k → waitingIn T (i - 1 + k) X c ≤ w
   covered top h p l m = s .progress .below (omega arith) top p l m
   covered (falls {i} {k} {X} {c} {w} d t o e lt g) h p l m =
       let (hk, hX, hc) = pops-row n o in
@@ -252,23 +243,24 @@ module _ {B : Tables} {claim : Claims} {G : ℕ → ℕ → ℕ} {q a r j : ℕ}
           let v = followed {w = w} X (claimed-next (o .walk)) there (rw here (covered t (omega arith) o near (omega arith))) in
           absurd (omega (arith, s .refused X c hX hc there (omega arith), plus-mono v (le-refl (G g′ c))))
 
-  pub settling-done : {events′ : List ℕ} → Cleared (j % 32 * 1024) 1024 events events′ → Progress B claim G q st a r (suc j) events′
-  unfolding waitingIn entryIn
-  settling-done {events′} cleared = record {
+  pub settling-done : {T′ : ℕ → ℕ → ℕ} → ((X c : ℕ) → X < 32 → c < 32 → T′ (rowOf j X) c ≡ unreached) → ((row c : ℕ) → c < 32 → ¬ (row / 32 ≡ j % 32) → T′ row c ≡ T row c)
+      → Progress B claim G q st a r (suc j) T′
+  unfolding waitingIn
+  settling-done {T′} gone rest = record {
     below = λ h t p l m. below h t p l m;
     missed = λ h t. refused t h;
     attained = λ d X c hX hc l m. attained d X c hX hc l m (decLt d (j + 32));
   }
     where
-      same : (d X c : ℕ) → j < d → d < j + 32 → X < 32 → c < 32 → getD events′ (rowOf d X * 32 + c) 0 ≡ getD events (rowOf d X * 32 + c) 0
-      same d X c l m hX hc = ⊎-elim (λ h. cleared .before (rowOf d X * 32 + c) h) (λ h. cleared .after (rowOf d X * 32 + c) h) (row-apart j d X c l m hX hc)
+      same : (d X c : ℕ) → j < d → d < j + 32 → X < 32 → c < 32 → T′ (rowOf d X) c ≡ T (rowOf d X) c
+      same d X c l m hX hc = rest (rowOf d X) c hc (λ e. omega arith)
 
-      below : {i g b u k X c w : ℕ} → i ≤ suc j → Stands B claim q st a i g b u → Pops B claim g b u k X c w → w ≤ r → suc j ≤ i - 1 + k → getD events′ (rowOf (i - 1 + k) X * 32 + c) 0 ≤ w
+      below : {i g b u k X c w : ℕ} → i ≤ suc j → Stands B claim q st a i g b u → Pops B claim g b u k X c w → w ≤ r → suc j ≤ i - 1 + k → T′ (rowOf (i - 1 + k) X) c ≤ w
       below {i} {k} {X} {c} h t p l m =
           let (hk, hX, hc) = pops-row n p in
           rw (same (i - 1 + k) X c (omega arith) (omega arith) hX hc) (covered t h p l (omega arith))
 
       attained : (d X c : ℕ) → X < 32 → c < 32 → suc j ≤ d → d < suc j + 32 → Dec (d < j + 32)
-          → (getD events′ (rowOf d X * 32 + c) 0 ≡ unreached) ⊎ (Event B claim q st a d X c (getD events′ (rowOf d X * 32 + c) 0) × (getD events′ (rowOf d X * 32 + c) 0 ≤ r))
+          → (T′ (rowOf d X) c ≡ unreached) ⊎ (Event B claim q st a d X c (T′ (rowOf d X) c) × (T′ (rowOf d X) c ≤ r))
       attained d X c hX hc l m (yes f) = rw (same d X c (omega arith) f hX hc) (s .progress .attained d X c hX hc (omega arith) f)
-      attained d X c hX hc l m (no f) = inl (cleared .inside (rowOf d X * 32 + c) (omega arith) (omega arith))
+      attained d X c hX hc l m (no f) = let e : rowOf d X ≡ rowOf j X = omega arith in inl (rw e (gone X c hX hc))

@@ -4,11 +4,14 @@ ghost use Prim.Native.Nat.{ℕ, _+_, _*_, _≤_, _<_, max};
 ghost use lib.ListN.{length};
 ghost use Rattle.book.specs.Tables.{tablesOf};
 ghost use Rattle.book.specs.TablesLaws.{Holds};
-ghost use Rattle.walk.specs.Cost.{plus, limit};
+ghost use Rattle.walk.specs.Claims.{Claims};
+ghost use Rattle.walk.specs.Cost.{limit};
 ghost use Rattle.layers.specs.Crossing.{room, claimIn, Quiet};
-ghost use Rattle.layers.specs.Layer.{entryIn, valueIn};
+ghost use Rattle.layers.specs.Layer.{valueIn};
+ghost use Rattle.layers.specs.LayerLaws.{Cleared};
 ghost use Rattle.layers.specs.Step.{Step};
-ghost use Rattle.search.specs.Waiting.{Expands, Lowered, Popped, Reduces, ReducesState, ReducesLayer, Longest};
+ghost use Rattle.search.specs.EventLaws.{RowsOn};
+ghost use Rattle.search.specs.Waiting.{eventIn, Expands, Lowered, Popped, Reduces, ReducesState, ReducesLayer, Longest, Enough};
 use book::Action;
 use book::Sizes;
 use book::action_at;
@@ -16,6 +19,7 @@ use book::left_side;
 use book::production_length;
 use layers::begin;
 use layers::lengthen;
+use layers::opens;
 use walk::UNREACHED;
 use walk::add;
 use walk::least;
@@ -41,11 +45,39 @@ pub fn longest(cells: &[u16], d: Sizes) -> usize
     most
 }
 
-fn lower(events: &mut [u16; 32768], row: usize, c: usize, w: u16)
-    requires { ⌜ (row < 1024) × (c < 32) × (length (now events) ≡ 32768) ⌝ }
-    ensures { λ _. ⌜ length (now (events .exit)) ≡ 32768 ⌝ }
-    ensures { λ _. ⌜ Step (Lowered row c w) (entryIn (now (events .entry))) (entryIn (now (events .exit))) ⌝ }
+fn clear(events: &mut [u16; 32768], base: usize)
+    requires { ⌜ (base + 1024 ≤ 32768) × (length (now events) ≡ 32768) ⌝ }
+    ensures { λ _. ⌜ Cleared base 1024 (now (events .entry)) (now (events .exit)) ⌝ }
 {
+    let mut k: usize = 0;
+    while k < 1024 {
+        events[base + k] = UNREACHED;
+        k += 1;
+    }
+}
+
+// The rows k are there from now on, if they were not.
+fn turn_on(events: &mut [u16; 32768], flags: &mut [u8; 32], k: usize)
+    requires { ⌜ (k < 32) × (length (now events) ≡ 32768) × (length (now flags) ≡ 32) ⌝ }
+    ensures { λ _. ⌜ (length (now (events .exit)) ≡ 32768) × (length (now (flags .exit)) ≡ 32) ⌝ }
+    ensures { λ _. ⌜ RowsOn k (now (events .entry)) (now (flags .entry)) (now (events .exit)) (now (flags .exit)) ⌝ }
+{
+    if flags[k] != 0 {
+        return;
+    }
+    clear(events, k * 1024);
+    flags[k] = 1;
+}
+
+// Lowers the entry of the nonterminal x and the terminal c in the rows k to w.
+fn lower(events: &mut [u16; 32768], flags: &mut [u8; 32], k: usize, x: usize, c: usize, w: u16)
+    requires { ⌜ (k < 32) × (x < 32) × (c < 32) ⌝ }
+    requires { ⌜ (length (now events) ≡ 32768) × (length (now flags) ≡ 32) ⌝ }
+    ensures { λ _. ⌜ (length (now (events .exit)) ≡ 32768) × (length (now (flags .exit)) ≡ 32) ⌝ }
+    ensures { λ _. ⌜ Step (Lowered (k * 32 + x) c w) (eventIn (now (events .entry)) (now (flags .entry))) (eventIn (now (events .exit)) (now (flags .exit))) ⌝ }
+{
+    let row = k * 32 + x;
+    turn_on(events, flags, k);
     events[row * 32 + c] = least(events[row * 32 + c], w);
 }
 
@@ -59,19 +91,20 @@ fn pop(
     c: usize,
     w: u16,
     events: &mut [u16; 32768],
+    flags: &mut [u8; 32],
 )
     requires { ⌜ Holds d (now cells) ⌝ }
     requires { ⌜ (p < d .p) × (c < d .t) × (at < 32) ⌝ }
-    requires { ⌜ length (now events) ≡ 32768 ⌝ }
-    ensures { λ _. ⌜ length (now (events .exit)) ≡ 32768 ⌝ }
-    ensures { λ _. ⌜ Step (Popped (tablesOf (now (cells .entry))) at m p c w) (entryIn (now (events .entry))) (entryIn (now (events .exit))) ⌝ }
+    requires { ⌜ (length (now events) ≡ 32768) × (length (now flags) ≡ 32) ⌝ }
+    ensures { λ _. ⌜ (length (now (events .exit)) ≡ 32768) × (length (now (flags .exit)) ≡ 32) ⌝ }
+    ensures { λ _. ⌜ Step (Popped (tablesOf (now (cells .entry))) at m p c w) (eventIn (now (events .entry)) (now (flags .entry))) (eventIn (now (events .exit)) (now (flags .exit))) ⌝ }
 {
     let n = production_length(cells, d, p) as usize;
     if n <= m {
         return;
     }
     let x = left_side(cells, d, p) as usize;
-    lower(events, (at + (n - m - 1)) % 32 * 32 + x, c, w);
+    lower(events, flags, (at + (n - m - 1)) % 32, x, c, w);
 }
 
 // The reduction in (q, c), if there is one and the cost is within r.
@@ -85,18 +118,19 @@ fn pop_at(
     c: usize,
     w: u16,
     events: &mut [u16; 32768],
+    flags: &mut [u8; 32],
 )
     requires { ⌜ Holds d (now cells) ⌝ }
     requires { ⌜ (q < d .s) × (c < d .t) × (at < 32) ⌝ }
-    requires { ⌜ length (now events) ≡ 32768 ⌝ }
-    ensures { λ _. ⌜ length (now (events .exit)) ≡ 32768 ⌝ }
-    ensures { λ _. ⌜ Step (Reduces (tablesOf (now (cells .entry))) at m r q c w) (entryIn (now (events .entry))) (entryIn (now (events .exit))) ⌝ }
+    requires { ⌜ (length (now events) ≡ 32768) × (length (now flags) ≡ 32) ⌝ }
+    ensures { λ _. ⌜ (length (now (events .exit)) ≡ 32768) × (length (now (flags .exit)) ≡ 32) ⌝ }
+    ensures { λ _. ⌜ Step (Reduces (tablesOf (now (cells .entry))) at m r q c w) (eventIn (now (events .entry)) (now (flags .entry))) (eventIn (now (events .exit)) (now (flags .exit))) ⌝ }
 {
     if w > r {
         return;
     }
     match action_at(cells, d, q, c) {
-        Action::Reduce(p) => pop(cells, d, at, m, p as usize, c, w, events),
+        Action::Reduce(p) => pop(cells, d, at, m, p as usize, c, w, events, flags),
         Action::Error => {}
         Action::Accept => {}
         Action::Shift(_) => {}
@@ -112,17 +146,18 @@ fn pop_state(
     r: u16,
     v: u16,
     values: &[u16; 4096],
-    flags: &[u8; 128],
+    on: &[u8; 128],
     q: usize,
     events: &mut [u16; 32768],
+    flags: &mut [u8; 32],
 )
     requires { ⌜ Holds d (now cells) ⌝ }
     requires { ⌜ (q < d .s) × (at < 32) × (r ≤ limit) ⌝ }
-    requires { ⌜ length (now events) ≡ 32768 ⌝ }
-    ensures { λ _. ⌜ length (now (events .exit)) ≡ 32768 ⌝ }
-    ensures { λ _. ⌜ Step (ReducesState d (tablesOf (now (cells .entry))) at m r v (valueIn (now (values .entry)) (now (flags .entry))) q) (entryIn (now (events .entry))) (entryIn (now (events .exit))) ⌝ }
+    requires { ⌜ (length (now events) ≡ 32768) × (length (now flags) ≡ 32) ⌝ }
+    ensures { λ _. ⌜ (length (now (events .exit)) ≡ 32768) × (length (now (flags .exit)) ≡ 32) ⌝ }
+    ensures { λ _. ⌜ Step (ReducesState d (tablesOf (now (cells .entry))) at m r v (valueIn (now (values .entry)) (now (on .entry))) q) (eventIn (now (events .entry)) (now (flags .entry))) (eventIn (now (events .exit)) (now (flags .exit))) ⌝ }
 {
-    if flags[q] == 0 {
+    if on[q] == 0 {
         return;
     }
     let t = d.t;
@@ -130,7 +165,7 @@ fn pop_state(
     let mut c: usize = 0;
     while c < t {
         let w = add(v, values[row + c]);
-        pop_at(cells, d, at, m, r, q, c, w, events);
+        pop_at(cells, d, at, m, r, q, c, w, events, flags);
         c += 1;
     }
 }
@@ -143,21 +178,36 @@ fn pop_layer(
     r: u16,
     v: u16,
     values: &[u16; 4096],
-    flags: &[u8; 128],
+    on: &[u8; 128],
     events: &mut [u16; 32768],
+    flags: &mut [u8; 32],
 )
     requires { ⌜ Holds d (now cells) ⌝ }
     requires { ⌜ (at < 32) × (r ≤ limit) ⌝ }
-    requires { ⌜ length (now events) ≡ 32768 ⌝ }
-    ensures { λ _. ⌜ length (now (events .exit)) ≡ 32768 ⌝ }
-    ensures { λ _. ⌜ Step (ReducesLayer d (tablesOf (now (cells .entry))) at m r v (valueIn (now (values .entry)) (now (flags .entry)))) (entryIn (now (events .entry))) (entryIn (now (events .exit))) ⌝ }
+    requires { ⌜ (length (now events) ≡ 32768) × (length (now flags) ≡ 32) ⌝ }
+    ensures { λ _. ⌜ (length (now (events .exit)) ≡ 32768) × (length (now (flags .exit)) ≡ 32) ⌝ }
+    ensures { λ _. ⌜ Step (ReducesLayer d (tablesOf (now (cells .entry))) at m r v (valueIn (now (values .entry)) (now (on .entry)))) (eventIn (now (events .entry)) (now (flags .entry))) (eventIn (now (events .exit)) (now (flags .exit))) ⌝ }
 {
     let s = d.s;
     let mut q: usize = 0;
     while q < s {
-        pop_state(cells, d, at, m, r, v, values, flags, q, events);
+        pop_state(cells, d, at, m, r, v, values, on, q, events, flags);
         q += 1;
     }
+}
+
+// How many layers from (g, a) matter: where no walk begins, only the first.
+fn layer_count(cells: &[u16], d: Sizes, most: usize, g: usize, a: usize) -> usize
+    requires { ⌜ Holds d (now cells) ⌝ }
+    requires { ⌜ (g < d .s) × (a < d .t) ⌝ }
+    requires { ⌜ Longest (tablesOf (now cells)) most ⌝ }
+    ensures { λ n. ⌜ n ≤ max most 1 ⌝ }
+    ensures { λ n. ⌜ ((claim : Claims) → Quiet (tablesOf (now (cells .entry))) claim → Enough (tablesOf (now (cells .entry))) claim g a n) ⌝ }
+{
+    if opens(cells, d, g, a) {
+        return most;
+    }
+    1
 }
 
 // State g on top under a, at the cost v: all that it pops within r, where the rows of `at` are those of the state below it.
@@ -172,27 +222,29 @@ pub fn expand(
     a: usize,
     v: u16,
     events: &mut [u16; 32768],
+    flags: &mut [u8; 32],
 )
     requires { ⌜ Holds d (now cells) ⌝ }
     requires { ⌜ (g < d .s) × (a < d .t) × (at < 32) × (r ≤ limit) ⌝ }
     requires { ⌜ room d ≤ length (now table) ⌝ }
     requires { ⌜ Quiet (tablesOf (now cells)) (claimIn d (now table)) ⌝ }
     requires { ⌜ Longest (tablesOf (now cells)) most ⌝ }
-    requires { ⌜ length (now events) ≡ 32768 ⌝ }
-    ensures { λ _. ⌜ length (now (events .exit)) ≡ 32768 ⌝ }
-    ensures { λ _. ⌜ Step (Expands (tablesOf (now (cells .entry))) (claimIn d (now (table .entry))) at g a v r) (entryIn (now (events .entry))) (entryIn (now (events .exit))) ⌝ }
+    requires { ⌜ (length (now events) ≡ 32768) × (length (now flags) ≡ 32) ⌝ }
+    ensures { λ _. ⌜ (length (now (events .exit)) ≡ 32768) × (length (now (flags .exit)) ≡ 32) ⌝ }
+    ensures { λ _. ⌜ Step (Expands (tablesOf (now (cells .entry))) (claimIn d (now (table .entry))) at g a v r) (eventIn (now (events .entry)) (now (flags .entry))) (eventIn (now (events .exit)) (now (flags .exit))) ⌝ }
 {
+    let count = layer_count(cells, d, most, g, a);
     let mut values = [UNREACHED; 4096];
-    let mut flags = [0u8; 128];
+    let mut on = [0u8; 128];
     let mut next = [UNREACHED; 4096];
-    let mut next_flags = [0u8; 128];
-    begin(&mut values, &mut flags, g, a);
+    let mut next_on = [0u8; 128];
+    begin(&mut values, &mut on, g, a);
     let mut m: usize = 0;
-    while m < most {
-        pop_layer(cells, d, at, m, r, v, &values, &flags, events);
-        lengthen(cells, d, table, &values, &flags, &mut next, &mut next_flags);
+    while m < count {
+        pop_layer(cells, d, at, m, r, v, &values, &on, events, flags);
+        lengthen(cells, d, table, &values, &on, &mut next, &mut next_on);
         values = next;
-        flags = next_flags;
+        on = next_on;
         m += 1;
     }
 }

@@ -4,6 +4,7 @@ mod expand;
 mod settle;
 
 pub use descend::search;
+pub use descend::search_with;
 
 pub enum Found {
     // How many states of the stack are kept, and the state on top of them.

@@ -8,40 +8,58 @@ ghost use Rattle.book.specs.TablesLaws.{Holds};
 ghost use Rattle.walk.specs.Cost.{limit};
 ghost use Rattle.layers.specs.Crossing.{room, claimIn, Quiet};
 ghost use Rattle.layers.specs.Layer.{entryIn};
-ghost use Rattle.layers.specs.LayerLaws.{Cleared};
-ghost use Rattle.search.specs.Waiting.{Longest};
-ghost use Rattle.search.specs.Settle.{Waits, NextWaiting, Followed, Settled};
+ghost use Rattle.search.specs.Waiting.{eventIn, Longest};
+ghost use Rattle.search.specs.Settle.{cellIn, Waits, NextWaiting, Followed, Settled};
 use crate::expand::expand;
 use book::Sizes;
 use book::goto_at;
 use walk::UNREACHED;
 use walk::add;
 
-// Whether the goto of cell i waits at a lower cost than it was followed at. Columns from t on are not used.
-fn waits(events: &[u16; 32768], done: &[u16; 1024], t: usize, base: usize, i: usize) -> bool
-    requires { ⌜ (base + 1024 ≤ 32768) × (i < 1024) ⌝ }
-    ensures { λ r. ⌜ Waits t base (now (events .entry)) (now (done .entry)) i r ⌝ }
+// The cost at which the goto of cell i waits.
+fn waiting_at(events: &[u16; 32768], flags: &[u8; 32], at: usize, i: usize) -> u16
+    requires { ⌜ (at < 32) × (i < 1024) ⌝ }
+    ensures { λ v. ⌜ v ≡ cellIn (eventIn (now (events .entry)) (now (flags .entry))) at i ⌝ }
+{
+    if flags[at] == 0 {
+        return UNREACHED;
+    }
+    events[at * 1024 + i]
+}
+
+// Whether that is lower than where it was followed at. Columns from t on are not used.
+fn waits(
+    events: &[u16; 32768],
+    flags: &[u8; 32],
+    done: &[u16; 1024],
+    t: usize,
+    at: usize,
+    i: usize,
+) -> bool
+    requires { ⌜ (at < 32) × (i < 1024) ⌝ }
+    ensures { λ r. ⌜ Waits t at (eventIn (now (events .entry)) (now (flags .entry))) (now (done .entry)) i r ⌝ }
 {
     if i % 32 >= t {
         return false;
     }
-    events[base + i] < done[i]
+    waiting_at(events, flags, at, i) < done[i]
 }
 
 // The first such cell below end, or end.
 fn next_waiting(
     events: &[u16; 32768],
+    flags: &[u8; 32],
     done: &[u16; 1024],
     t: usize,
-    base: usize,
+    at: usize,
     end: usize,
 ) -> usize
-    requires { ⌜ (base + 1024 ≤ 32768) × (end ≤ 1024) ⌝ }
-    ensures { λ i. ⌜ NextWaiting t base end (now (events .entry)) (now (done .entry)) i ⌝ }
+    requires { ⌜ (at < 32) × (end ≤ 1024) ⌝ }
+    ensures { λ i. ⌜ NextWaiting t at end (eventIn (now (events .entry)) (now (flags .entry))) (now (done .entry)) i ⌝ }
 {
     let mut i: usize = 0;
     while i < end {
-        if waits(events, done, t, base, i) {
+        if waits(events, flags, done, t, at, i) {
             return i;
         }
         i += 1;
@@ -61,6 +79,7 @@ fn follow(
     q: usize,
     i: usize,
     events: &mut [u16; 32768],
+    flags: &mut [u8; 32],
     done: &mut [u16; 1024],
 ) -> usize
     requires { ⌜ Holds d (now cells) ⌝ }
@@ -68,11 +87,11 @@ fn follow(
     requires { ⌜ room d ≤ length (now table) ⌝ }
     requires { ⌜ Quiet (tablesOf (now cells)) (claimIn d (now table)) ⌝ }
     requires { ⌜ Longest (tablesOf (now cells)) most ⌝ }
-    requires { ⌜ (length (now events) ≡ 32768) × (length (now done) ≡ 1024) ⌝ }
-    ensures { λ _. ⌜ (length (now (events .exit)) ≡ 32768) × (length (now (done .exit)) ≡ 1024) ⌝ }
-    ensures { λ g. ⌜ Followed (tablesOf (now (cells .entry))) (claimIn d (now (table .entry))) (entryIn (now (togo .entry))) r q at i (now (events .entry)) (now (done .entry)) (now (events .exit)) (now (done .exit)) g ⌝ }
+    requires { ⌜ (length (now events) ≡ 32768) × (length (now flags) ≡ 32) × (length (now done) ≡ 1024) ⌝ }
+    ensures { λ _. ⌜ (length (now (events .exit)) ≡ 32768) × (length (now (flags .exit)) ≡ 32) × (length (now (done .exit)) ≡ 1024) ⌝ }
+    ensures { λ g. ⌜ Followed (tablesOf (now (cells .entry))) (claimIn d (now (table .entry))) (entryIn (now (togo .entry))) r q at i (eventIn (now (events .entry)) (now (flags .entry))) (now (done .entry)) (eventIn (now (events .exit)) (now (flags .exit))) (now (done .exit)) g ⌝ }
 {
-    let v = events[at * 1024 + i];
+    let v = waiting_at(events, flags, at, i);
     done[i] = v;
     let target = goto_at(cells, d, q, i / 32);
     if target == 0 {
@@ -83,23 +102,12 @@ fn follow(
     if add(v, togo[g * 32 + c]) <= r {
         return target as usize;
     }
-    expand(cells, d, table, most, at, r, g, c, v, events);
+    expand(cells, d, table, most, at, r, g, c, v, events, flags);
     0
 }
 
-fn clear(events: &mut [u16; 32768], base: usize)
-    requires { ⌜ (base + 1024 ≤ 32768) × (length (now events) ≡ 32768) ⌝ }
-    ensures { λ _. ⌜ Cleared base 1024 (now (events .entry)) (now (events .exit)) ⌝ }
-{
-    let mut k: usize = 0;
-    while k < 1024 {
-        events[base + k] = UNREACHED;
-        k += 1;
-    }
-}
-
 // All that waits for state q, in the rows of `at`. Where one completes within r: the state its goto leads to, + 1; else 0, and the rows
-// are cleared.
+// are off.
 pub fn settle(
     cells: &[u16],
     d: Sizes,
@@ -110,28 +118,44 @@ pub fn settle(
     r: u16,
     q: usize,
     events: &mut [u16; 32768],
+    flags: &mut [u8; 32],
 ) -> usize
     requires { ⌜ Holds d (now cells) ⌝ }
     requires { ⌜ (q < d .s) × (at < 32) × (r ≤ limit) ⌝ }
     requires { ⌜ room d ≤ length (now table) ⌝ }
     requires { ⌜ Quiet (tablesOf (now cells)) (claimIn d (now table)) ⌝ }
     requires { ⌜ Longest (tablesOf (now cells)) most ⌝ }
-    requires { ⌜ length (now events) ≡ 32768 ⌝ }
-    ensures { λ _. ⌜ length (now (events .exit)) ≡ 32768 ⌝ }
-    ensures { λ g. ⌜ Settled (tablesOf (now (cells .entry))) (claimIn d (now (table .entry))) (entryIn (now (togo .entry))) r q at (now (events .entry)) (now (events .exit)) g ⌝ }
+    requires { ⌜ (length (now events) ≡ 32768) × (length (now flags) ≡ 32) ⌝ }
+    ensures { λ _. ⌜ (length (now (events .exit)) ≡ 32768) × (length (now (flags .exit)) ≡ 32) ⌝ }
+    ensures { λ g. ⌜ Settled (tablesOf (now (cells .entry))) (claimIn d (now (table .entry))) (entryIn (now (togo .entry))) r q at (eventIn (now (events .entry)) (now (flags .entry))) (eventIn (now (events .exit)) (now (flags .exit))) g ⌝ }
 {
+    if flags[at] == 0 {
+        return 0;
+    }
     let mut done = [UNREACHED; 1024];
     let t = d.t;
     let end = d.n * 32;
-    let base = at * 1024;
-    let mut i = next_waiting(events, &done, t, base, end);
+    let mut i = next_waiting(events, flags, &done, t, at, end);
     while i < end {
-        let hit = follow(cells, d, table, togo, most, at, r, q, i, events, &mut done);
+        let hit = follow(
+            cells,
+            d,
+            table,
+            togo,
+            most,
+            at,
+            r,
+            q,
+            i,
+            events,
+            flags,
+            &mut done,
+        );
         if hit != 0 {
             return hit;
         }
-        i = next_waiting(events, &done, t, base, end);
+        i = next_waiting(events, flags, &done, t, at, end);
     }
-    clear(events, base);
+    flags[at] = 0;
     0
 }

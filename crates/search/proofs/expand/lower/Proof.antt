@@ -2,10 +2,20 @@
 use native.Mathlib.Omega.{arith}
 use mathlib.Core.Path.{refl}
 use lib.ListN.{length-set}
+use Rattle.search.specs.EventLaws.{step-rows}
 use Rattle.search.specs.ExpandLaws.{step-lowered}
 use borrow.Author.Needs.{needs}
 use Rattle.search.proofs.expand.lower.Statement.{statement}
 use Rattle.search.proofs.expand.lower.Tie as tie
+
+mul-row : tie.Need-mul-row
+mul-row c = search needs
+
+add-row : tie.Need-add-row
+add-row c = search needs
+
+turn-on-requires : tie.Need-turn-on-requires
+turn-on-requires c κs = (c .before .before .pre .0 .0, c .before .before .pre .1 .0, c .before .before .pre .1 .1)
 
 mul-least : tie.Need-mul-least
 mul-least c = search needs
@@ -17,7 +27,7 @@ mul-least-2 : tie.Need-mul-least-2
 mul-least-2 c = search needs
 
 element-copy-out-least : tie.Need-element-copy-out-least
-element-copy-out-least c = search needs
+element-copy-out-least c = omega (arith, c .turn-on .ensures .0 .0)
 
 least-requires : tie.Need-least-requires
 least-requires c κs = search needs
@@ -32,15 +42,18 @@ mul-events-2 : tie.Need-mul-events-2
 mul-events-2 c = search needs
 
 element-write-events : tie.Need-element-write-events
-element-write-events c = search needs
+element-write-events c = omega (arith, c .before .before .turn-on .ensures .0 .0)
 
 returns : tie.Need-returns
-returns c = (simp length-set (c .before .before .pre .2), step-lowered _ _ _ _ _ _ _ (c .before .before .pre .1) (omega arith) (c .least .ensures) refl refl)
+returns c = ((simp length-set (c .before .before .turn-on .ensures .0 .0), c .before .before .turn-on .ensures .0 .1), step-rows _ _ _ _ _ (c .before .before .before .before .before .args .k) (omega arith) (c .before .before .turn-on .ensures .1) (step-lowered _ _ _ _ _ _ _ (c .before .before .before .before .before .pre .0 .2) (omega (arith, c .before .before .turn-on .ensures .0 .0)) (c .least .ensures) refl refl))
 
 pub lower-spec : {M : Type 1} → statement M
 lower-spec =
     tie.close
     (tie.spec
+    mul-row
+    add-row
+    turn-on-requires
     mul-least
     add-least
     mul-least-2

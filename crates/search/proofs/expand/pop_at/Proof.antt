@@ -1,6 +1,6 @@
 -- `search::expand::pop_at` meets its contract. Assumes nothing.
-use Rattle.book.specs.Tables.{tablesOf}
 use mathlib.Core.Path.{_∙_, sym}
+use Rattle.book.specs.Tables.{tablesOf}
 use Rattle.layers.specs.ActionLaws.{reduce-below}
 use Rattle.search.specs.ExpandLaws.{step-beyond, step-reduce, step-error, step-accept, step-shift}
 use borrow.Author.Needs.{needs}
@@ -20,7 +20,7 @@ cast-pop : tie.Need-cast-pop
 cast-pop c = search needs
 
 pop-requires : tie.Need-pop-requires
-pop-requires c κs = (c .before .before .before .before .before .before .before .pre .0, ((reduce-below _ _ (c .before .before .before .before .before .before .before .pre .0) (sym (c .before .before .before .before .action-at .ensures) ∙ c .before .before .p .given .1), c .before .before .before .before .before .before .before .pre .1 .0 .1, c .before .before .before .before .before .before .before .pre .1 .0 .2), c .before .before .before .before .before .before .before .pre .1 .1))
+pop-requires c κs = (c .before .before .before .before .before .before .before .before .pre .0, ((reduce-below _ _ (c .before .before .before .before .before .before .before .before .pre .0) (sym (c .before .before .before .before .before .action-at .ensures) ∙ c .before .before .before .p .given .1), c .before .before .before .before .before .before .before .before .pre .1 .0 .1, c .before .before .before .before .before .before .before .before .pre .1 .0 .2), c .before .before .before .before .before .before .before .before .pre .1 .1))
 
 enum-told : tie.Need-enum-told
 enum-told c = search needs
@@ -32,7 +32,7 @@ enum-told-3 : tie.Need-enum-told-3
 enum-told-3 c = search needs
 
 returns-2 : tie.Need-returns-2
-returns-2 c = (c .pop .ensures .0, step-reduce (tablesOf (c .before .before .before .before .before .before .before .before .args .cells .now)) (c .before .before .before .before .before .before .before .before .args .at) (c .before .before .before .before .before .before .before .before .args .m) (c .before .before .before .before .before .before .before .before .args .r) (c .before .before .before .before .before .before .before .before .args .q) (c .before .before .before .before .before .before .before .before .args .c) (c .before .before .before .before .before .before .before .before .args .w) (c .before .before .before .before .before .before .if1 .left) (sym (c .before .before .before .before .before .action-at .ensures) ∙ c .before .before .before .p .given .1) (c .pop .ensures .1))
+returns-2 c = (c .pop .ensures .0, step-reduce (tablesOf (c .before .before .before .before .before .before .before .before .before .args .cells .now)) (c .before .before .before .before .before .before .before .before .before .args .at) (c .before .before .before .before .before .before .before .before .before .args .m) (c .before .before .before .before .before .before .before .before .before .args .r) (c .before .before .before .before .before .before .before .before .before .args .q) (c .before .before .before .before .before .before .before .before .before .args .c) (c .before .before .before .before .before .before .before .before .before .args .w) (c .before .before .before .before .before .before .before .if1 .left) (sym (c .before .before .before .before .before .before .action-at .ensures) ∙ c .before .before .before .before .p .given .1) (c .pop .ensures .1))
 
 returns-3 : tie.Need-returns-3
 returns-3 c = (c .before .before .before .before .before .pre .1 .1, step-error (tablesOf (c .before .before .before .before .before .args .cells .now)) (c .before .before .before .before .before .args .at) (c .before .before .before .before .before .args .m) (c .before .before .before .before .before .args .r) (c .before .before .before .before .before .args .q) (c .before .before .before .before .before .args .c) (c .before .before .before .before .before .args .w) (c .before .before .action-at .ensures) (c .enum-told .given .1))

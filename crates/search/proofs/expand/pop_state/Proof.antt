@@ -5,33 +5,33 @@ use Prim.Native.Nat.{_-_, _≤_}
 use lib.ListN.{length}
 use Rattle.book.specs.Tables.{tablesOf}
 use Rattle.walk.specs.Cost.{plus}
-use Rattle.layers.specs.Layer.{entryIn, valueIn}
+use Rattle.layers.specs.Layer.{valueIn}
 use Rattle.layers.specs.LayerLaws.{value-off, value-read}
 use Rattle.layers.specs.Step.{Step, Upto}
 use Rattle.layers.specs.StepLaws.{step-zero, step-more, step-done}
-use Rattle.search.specs.Waiting.{Reduces}
+use Rattle.search.specs.Waiting.{eventIn, Reduces}
 use Rattle.search.specs.ExpandLaws.{step-off}
 use borrow.Author.Needs.{needs}
 use Rattle.search.proofs.expand.pop_state.Statement.{statement}
 use Rattle.search.proofs.expand.pop_state.Tie as tie
 
 abbrev Inv-loop : tie.InvT-loop
-Inv-loop cells d at m r v values flags q events₀ t row c₀ events c = (c ≤ t) × (length events ≡ 32768) × Step (Upto (λ z. Reduces (tablesOf cells) at m r q z (plus v (valueIn values flags q z))) c) (entryIn events₀) (entryIn events)
+Inv-loop cells d at m r v values on q events₀ flags₀ t row c₀ events flags c = (c ≤ t) × (length events ≡ 32768) × (length flags ≡ 32) × Step (Upto (λ z. Reduces (tablesOf cells) at m r q z (plus v (valueIn values on q z))) c) (eventIn events₀ flags₀) (eventIn events flags)
 
 abbrev μ-loop : tie.MeasureT-loop
-μ-loop cells d at m r v values flags q events₀ t row c₀ events c = t - c
+μ-loop cells d at m r v values on q events₀ flags₀ t row c₀ events flags c = t - c
 
 element-copy-out-if1 : tie.Need-element-copy-out-if1 Inv-loop μ-loop
 element-copy-out-if1 c = search needs
 
 returns : tie.Need-returns Inv-loop μ-loop
-returns c = (c .before .before .before .pre .1 .1, step-off (c .before .before .before .args .d) (tablesOf (c .before .before .before .args .cells .now)) (c .before .before .before .args .at) (c .before .before .before .args .m) (c .before .before .before .args .r) (c .before .before .before .args .v) (valueIn (c .before .before .before .args .values .now) (c .before .before .before .args .flags .now)) (c .before .before .before .args .q) (omega arith) (λ z. value-off _ _ _ _ (c .if1 .taken)))
+returns c = (c .before .before .before .pre .1 .1, step-off (c .before .before .before .args .d) (tablesOf (c .before .before .before .args .cells .now)) (c .before .before .before .args .at) (c .before .before .before .args .m) (c .before .before .before .args .r) (c .before .before .before .args .v) (valueIn (c .before .before .before .args .values .now) (c .before .before .before .args .on .now)) (c .before .before .before .args .q) (omega arith) (λ z. value-off _ _ _ _ (c .if1 .taken)))
 
 mul-row : tie.Need-mul-row Inv-loop μ-loop
 mul-row c = search needs
 
 loop-holds : tie.Need-loop-holds Inv-loop μ-loop
-loop-holds c = (omega arith, c .before .before .before .pre .1 .1, step-zero)
+loop-holds c = (omega arith, c .before .before .before .pre .1 .1 .0, c .before .before .before .pre .1 .1 .1, step-zero)
 
 add-add : tie.Need-add-add Inv-loop μ-loop
 add-add c = search needs
@@ -46,7 +46,7 @@ add-requires : tie.Need-add-requires Inv-loop μ-loop
 add-requires c κs = search needs
 
 pop-at-requires : tie.Need-pop-at-requires Inv-loop μ-loop
-pop-at-requires c κs = (c .before .before .before .before .before .before .before .before .pre .0, ((c .before .before .before .before .before .before .before .before .pre .1 .0 .0, c .before .before .before .loop-test .taken, c .before .before .before .before .before .before .before .before .pre .1 .0 .1), c .before .before .before .before .loop .inv .1))
+pop-at-requires c κs = (c .before .before .before .before .before .before .before .before .before .pre .0, ((c .before .before .before .before .before .before .before .before .before .pre .1 .0 .0, c .before .before .before .before .loop-test .taken, c .before .before .before .before .before .before .before .before .before .pre .1 .0 .1), (c .before .before .before .before .before .loop .inv .1, c .before .before .before .before .before .loop .inv .2)))
 
 add-c : tie.Need-add-c Inv-loop μ-loop
 add-c c = search needs
@@ -55,10 +55,10 @@ loop-less : tie.Need-loop-less Inv-loop μ-loop
 loop-less c = search needs
 
 loop-again : tie.Need-loop-again Inv-loop μ-loop
-loop-again c = (omega arith, c .pop-at .ensures .0, step-more _ _ (c .before .before .before .before .before .loop .inv .2) (rw (value-read _ _ _ _ (c .before .before .before .before .before .before .if1 .left), ← c .before .before .add .ensures) (c .pop-at .ensures .1)))
+loop-again c = (omega arith, c .pop-at .ensures .0 .0, c .pop-at .ensures .0 .1, step-more _ _ (c .before .before .before .before .before .before .loop .inv .3) (rw (value-read _ _ _ _ (c .before .before .before .before .before .before .before .if1 .left), ← c .before .before .before .add .ensures) (c .pop-at .ensures .1)))
 
 returns-2 : tie.Need-returns-2 Inv-loop μ-loop
-returns-2 c = (c .before .loop .inv .1, step-done (c .before .loop .inv .0) (c .loop-test .left) (c .before .loop .inv .2))
+returns-2 c = ((c .before .loop .inv .1, c .before .loop .inv .2), step-done (c .before .loop .inv .0) (c .loop-test .left) (c .before .loop .inv .3))
 
 pub pop-state-spec : {M : Type 1} → statement M
 pop-state-spec =

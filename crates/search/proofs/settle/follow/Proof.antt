@@ -10,17 +10,8 @@ use borrow.Author.Needs.{needs}
 use Rattle.search.proofs.settle.follow.Statement.{statement}
 use Rattle.search.proofs.settle.follow.Tie as tie
 
-mul-v : tie.Need-mul-v
-mul-v c = search needs
-
-add-v : tie.Need-add-v
-add-v c = search needs
-
-mul-v-2 : tie.Need-mul-v-2
-mul-v-2 c = search needs
-
-element-copy-out-v : tie.Need-element-copy-out-v
-element-copy-out-v c = search needs
+waiting-at-requires : tie.Need-waiting-at-requires
+waiting-at-requires c κs = (c .before .before .before .before .pre .1 .0 .1, omega (arith, c .before .before .before .before .pre .1 .0 .3, c .before .before .before .before .pre .0 .small .nonterminals))
 
 mul-done : tie.Need-mul-done
 mul-done c = search needs
@@ -32,7 +23,7 @@ goto-at-requires : tie.Need-goto-at-requires
 goto-at-requires c κs = search needs
 
 returns : tie.Need-returns
-returns c = ((c .before .before .before .before .before .pre .1 .1 .1 .1 .1 .0, simp length-set (c .before .before .before .before .before .pre .1 .1 .1 .1 .1 .1)), absent (sym (c .before .goto-at .ensures) ∙ c .if1 .taken))
+returns c = ((c .before .before .before .before .before .before .before .pre .1 .1 .1 .1 .1 .0, c .before .before .before .before .before .before .before .pre .1 .1 .1 .1 .1 .1, simp length-set (c .before .before .before .before .before .before .before .pre .1 .1 .1 .1 .1 .2)), rw (c .before .before .waiting-at .ensures) (absent (sym (c .before .goto-at .ensures) ∙ c .if1 .taken)))
 
 sub-g : tie.Need-sub-g
 sub-g c = search needs
@@ -50,7 +41,7 @@ mul-add-2 : tie.Need-mul-add-2
 mul-add-2 c = search needs
 
 element-copy-out-add : tie.Need-element-copy-out-add
-element-copy-out-add c = omega (arith, c .if1 .left, c .before .goto-at .ensures, goto-least (c .before .before .before .before .before .pre .0) (c .before .before .before .before .before .args .q) (c .before .before .before .before .before .args .i / 32) (c .before .before .before .before .before .pre .1 .0 .0) (omega (arith, c .before .before .before .before .before .pre .1 .0 .3)), c .before .before .before .before .before .pre .0 .small .states)
+element-copy-out-add c = omega (arith, c .if1 .left, c .before .goto-at .ensures, goto-least (c .before .before .before .before .before .before .before .pre .0) (c .before .before .before .before .before .before .before .args .q) (c .before .before .before .before .before .before .before .args .i / 32) (c .before .before .before .before .before .before .before .pre .1 .0 .0) (omega (arith, c .before .before .before .before .before .before .before .pre .1 .0 .3)), c .before .before .before .before .before .before .before .pre .0 .small .states)
 
 add-requires : tie.Need-add-requires
 add-requires c κs = search needs
@@ -60,23 +51,20 @@ cast-result c = search needs
 
 returns-2 : tie.Need-returns-2
 unfolding entryIn
-returns-2 c = ((c .before .before .before .before .before .before .before .before .pre .1 .1 .1 .1 .1 .0, simp length-set (c .before .before .before .before .before .before .before .before .pre .1 .1 .1 .1 .1 .1)), hits {g = c .before .before .before .before .goto-at .result - 1} (c .before .before .before .before .goto-at .result) (omega (arith, c .before .before .before .if1 .left)) (omega (arith, c .before .before .before .if1 .left, c .before .before .before .before .goto-at .ensures)) (rw (c .before .add .ensures) at (c .if2 .taken)))
+returns-2 c = ((c .before .before .before .before .before .before .before .before .before .before .pre .1 .1 .1 .1 .1 .0, c .before .before .before .before .before .before .before .before .before .before .pre .1 .1 .1 .1 .1 .1, simp length-set (c .before .before .before .before .before .before .before .before .before .before .pre .1 .1 .1 .1 .1 .2)), hits {g = c .before .before .before .before .goto-at .result - 1} (c .before .before .before .before .goto-at .result) (omega (arith, c .before .before .before .if1 .left)) (omega (arith, c .before .before .before .if1 .left, c .before .before .before .before .goto-at .ensures)) (rw (c .before .add .ensures, c .before .before .before .before .before .waiting-at .ensures) at (c .if2 .taken)))
 
 expand-requires : tie.Need-expand-requires
-expand-requires c κs = (c .before .before .before .before .before .before .before .before .before .pre .0, ((omega (arith, c .before .before .before .before .if1 .left, c .before .before .before .before .before .goto-at .ensures, goto-least (c .before .before .before .before .before .before .before .before .before .pre .0) (c .before .before .before .before .before .before .before .before .before .args .q) (c .before .before .before .before .before .before .before .before .before .args .i / 32) (c .before .before .before .before .before .before .before .before .before .pre .1 .0 .0) (omega (arith, c .before .before .before .before .before .before .before .before .before .pre .1 .0 .3))), c .before .before .before .before .before .before .before .before .before .pre .1 .0 .4, c .before .before .before .before .before .before .before .before .before .pre .1 .0 .1, c .before .before .before .before .before .before .before .before .before .pre .1 .0 .2), (c .before .before .before .before .before .before .before .before .before .pre .1 .1 .0, (c .before .before .before .before .before .before .before .before .before .pre .1 .1 .1 .0, (c .before .before .before .before .before .before .before .before .before .pre .1 .1 .1 .1 .0, c .before .before .before .before .before .before .before .before .before .pre .1 .1 .1 .1 .1 .0)))))
+expand-requires c κs = (c .before .before .before .before .before .before .before .before .before .before .before .before .pre .0, ((omega (arith, c .before .before .before .before .before .if1 .left, c .before .before .before .before .before .before .goto-at .ensures, goto-least (c .before .before .before .before .before .before .before .before .before .before .before .before .pre .0) (c .before .before .before .before .before .before .before .before .before .before .before .before .args .q) (c .before .before .before .before .before .before .before .before .before .before .before .before .args .i / 32) (c .before .before .before .before .before .before .before .before .before .before .before .before .pre .1 .0 .0) (omega (arith, c .before .before .before .before .before .before .before .before .before .before .before .before .pre .1 .0 .3))), c .before .before .before .before .before .before .before .before .before .before .before .before .pre .1 .0 .4, c .before .before .before .before .before .before .before .before .before .before .before .before .pre .1 .0 .1, c .before .before .before .before .before .before .before .before .before .before .before .before .pre .1 .0 .2), (c .before .before .before .before .before .before .before .before .before .before .before .before .pre .1 .1 .0, (c .before .before .before .before .before .before .before .before .before .before .before .before .pre .1 .1 .1 .0, (c .before .before .before .before .before .before .before .before .before .before .before .before .pre .1 .1 .1 .1 .0, (c .before .before .before .before .before .before .before .before .before .before .before .before .pre .1 .1 .1 .1 .1 .0, c .before .before .before .before .before .before .before .before .before .before .before .before .pre .1 .1 .1 .1 .1 .1))))))
 
 returns-3 : tie.Need-returns-3
 unfolding entryIn
-returns-3 c = ((c .expand .ensures .0, simp length-set (c .before .before .before .before .before .before .before .before .before .before .pre .1 .1 .1 .1 .1 .1)), passed {g = c .before .before .before .before .before .before .goto-at .result - 1} (omega (arith, c .before .before .before .before .before .if1 .left, c .before .before .before .before .before .before .goto-at .ensures)) (rw (c .before .before .before .add .ensures) at (c .before .before .if2 .left)) (c .expand .ensures .1))
+returns-3 c = ((c .expand .ensures .0 .0, c .expand .ensures .0 .1, simp length-set (c .before .before .before .before .before .before .before .before .before .before .before .before .before .pre .1 .1 .1 .1 .1 .2)), rw (c .before .before .before .before .before .before .before .before .waiting-at .ensures) (passed {g = c .before .before .before .before .before .before .before .goto-at .result - 1} (omega (arith, c .before .before .before .before .before .before .if1 .left, c .before .before .before .before .before .before .before .goto-at .ensures)) (rw (c .before .before .before .before .add .ensures, c .before .before .before .before .before .before .before .before .waiting-at .ensures) at (c .before .before .before .if2 .left)) (rw (c .before .before .before .before .before .before .before .before .waiting-at .ensures) at (c .expand .ensures .1))))
 
 pub follow-spec : {M : Type 1} → statement M
 follow-spec =
     tie.close
     (tie.spec
-    mul-v
-    add-v
-    mul-v-2
-    element-copy-out-v
+    waiting-at-requires
     mul-done
     element-write-done
     goto-at-requires

@@ -1,6 +1,7 @@
 -- `search::settle::next_waiting` meets its contract. Assumes nothing.
 use native.Mathlib.Omega.{arith}
 use Prim.Native.Nat.{_-_, _≤_}
+use Rattle.search.specs.Waiting.{eventIn}
 use Rattle.search.specs.Settle.{NoneBelow}
 use Rattle.search.specs.SettleLaws.{none-more, next-here, next-none}
 use borrow.Author.Needs.{needs}
@@ -8,10 +9,10 @@ use Rattle.search.proofs.settle.next_waiting.Statement.{statement}
 use Rattle.search.proofs.settle.next_waiting.Tie as tie
 
 abbrev Inv-loop : tie.InvT-loop
-Inv-loop events done t base end i₀ i = (i ≤ end) × NoneBelow t base events done i
+Inv-loop events flags done t at end i₀ i = (i ≤ end) × NoneBelow t at (eventIn events flags) done i
 
 abbrev μ-loop : tie.MeasureT-loop
-μ-loop events done t base end i₀ i = end - i
+μ-loop events flags done t at end i₀ i = end - i
 
 loop-holds : tie.Need-loop-holds Inv-loop μ-loop
 loop-holds c = (omega arith, λ k h. absurd (omega arith))

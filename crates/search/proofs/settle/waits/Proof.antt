@@ -7,8 +7,8 @@ use Rattle.search.proofs.settle.waits.Tie as tie
 returns : tie.Need-returns
 returns c = waits-beyond _ _ _ _ _ (c .if1 .taken)
 
-add-result : tie.Need-add-result
-add-result c = search needs
+waiting-at-requires : tie.Need-waiting-at-requires
+waiting-at-requires c κs = search needs
 
 mul-result : tie.Need-mul-result
 mul-result c = search needs
@@ -16,23 +16,9 @@ mul-result c = search needs
 element-copy-out-result : tie.Need-element-copy-out-result
 element-copy-out-result c = search needs
 
-mul-result-2 : tie.Need-mul-result-2
-mul-result-2 c = search needs
-
-element-copy-out-result-2 : tie.Need-element-copy-out-result-2
-element-copy-out-result-2 c = search needs
-
 returns-2 : tie.Need-returns-2
-returns-2 c = waits-test _ _ _ _ _ (c .before .before .if1 .left)
+returns-2 c = waits-test _ _ _ _ _ _ (c .before .waiting-at .ensures) (c .before .before .if1 .left)
 
 pub waits-spec : {M : Type 1} → statement M
 waits-spec =
-    tie.close
-    (tie.spec
-    returns
-    add-result
-    mul-result
-    element-copy-out-result
-    mul-result-2
-    element-copy-out-result-2
-    returns-2)
+    tie.close (tie.spec returns waiting-at-requires mul-result element-copy-out-result returns-2)

@@ -1,11 +1,11 @@
--- `search::settle::clear` meets its contract. Assumes nothing.
+-- `search::expand::clear` meets its contract. Assumes nothing.
 use native.Mathlib.Omega.{arith}
 use Prim.Native.Nat.{_-_, _≤_}
 use native.Mathlib.Nat.{le-antisymm}
 use Rattle.layers.specs.LayerLaws.{Cleared, cleared-none, cleared-more}
 use borrow.Author.Needs.{needs}
-use Rattle.search.proofs.settle.clear.Statement.{statement}
-use Rattle.search.proofs.settle.clear.Tie as tie
+use Rattle.search.proofs.expand.clear.Statement.{statement}
+use Rattle.search.proofs.expand.clear.Tie as tie
 
 abbrev Inv-loop : tie.InvT-loop
 Inv-loop events₀ base k₀ events k = (k ≤ 1024) × Cleared base k events₀ events
