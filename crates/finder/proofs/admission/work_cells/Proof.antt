@@ -1,0 +1,26 @@
+-- `finder::admission::work_cells` meets its contract. Assumes nothing.
+use native.Mathlib.Omega.{arith}
+use Rattle.finder.specs.FinderLaws.{room}
+use borrow.Author.Needs.{needs}
+use Rattle.finder.proofs.admission.work_cells.Statement.{statement}
+use Rattle.finder.proofs.admission.work_cells.Tie as tie
+use Rattle.finder.proofs.admission.work_cells.Reads as reads
+use Rattle.finder.proofs.admission.work_cells.Lts as lts
+
+mul-result : tie.Need-mul-result
+mul-result c = omega (arith, room (c .before .pre) .squares)
+
+mul-result-2 : tie.Need-mul-result-2
+mul-result-2 c = omega (arith, room (c .before .before .pre) .layers)
+
+add-result : tie.Need-add-result
+add-result c = search needs
+
+mul-result-3 : tie.Need-mul-result-3
+mul-result-3 c = omega (arith, room (c .before .before .before .pre) .work)
+
+returns : tie.Need-returns
+returns c = search needs
+
+pub work-cells-spec : {M : Type 1} → statement M
+work-cells-spec = tie.close (tie.spec mul-result mul-result-2 add-result mul-result-3 returns)

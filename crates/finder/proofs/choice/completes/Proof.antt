@@ -1,0 +1,28 @@
+-- `finder::choice::completes` meets its contract: what the search finds, or not. Assumes nothing.
+use native.Mathlib.Omega.{arith}
+use mathlib.Core.Bool.{true≢false, false≢true}
+use Rattle.search.specs.SearchLaws.{reached-completes}
+use borrow.Author.Needs.{needs}
+use Rattle.finder.proofs.choice.completes.Statement.{statement}
+use Rattle.finder.proofs.choice.completes.Tie as tie
+use Rattle.finder.proofs.choice.completes.Reads as reads
+use Rattle.finder.proofs.choice.completes.Lts as lts
+use Rattle.search.proofs.search.Reads as search-reads
+
+search-requires : tie.Need-search-requires
+search-requires c κs = search needs
+
+enum-told : tie.Need-enum-told
+enum-told c = search needs
+
+enum-told-2 : tie.Need-enum-told-2
+enum-told-2 c = search needs
+
+returns : tie.Need-returns
+returns c = (λ e. reached-completes (omega (arith, c .before .before .before .before .before .before .pre)) (rw (c .enum-told .given .1) at (c .before .before .search .ensures)), λ e. absurd (true≢false e))
+
+returns-2 : tie.Need-returns-2
+returns-2 c = (λ e. absurd (false≢true e), λ e (v, k, l). rw (c .enum-told2 .given .1) at (c .before .before .search .ensures) v k l)
+
+pub completes-spec : {M : Type 1} → statement M
+completes-spec = tie.close (tie.spec search-requires enum-told enum-told-2 returns returns-2)

@@ -1,0 +1,74 @@
+-- What the finder's calls answer and leave. Assumes nothing.
+use mathlib.Core.Bool.{cond}
+use mathlib.Core.List.{List, []}
+use mathlib.Core.Path.{_≡_}
+use Prim.Native.Nat.{ℕ, _+_, _*_, _<_}
+use lib.Dec.{ltb, leb}
+use lib.ListN.{length, getD, replicate}
+use Rattle.number.specs.Lent.{over}
+use Rattle.number.specs.declared.Refusal.{Refusal}
+use Rattle.book.specs.Book.{ofCells, checked}
+use Rattle.book.specs.Tables.{tablesOf}
+use Rattle.book.specs.declared.Checked.{Checked}
+use Rattle.book.specs.declared.Checked.the-variants.{Valid, Refused as Faulty}
+use Rattle.book.specs.declared.Written.{Written}
+use Rattle.book.specs.declared.Written.the-variants.{Count, Refused as Unwritten}
+use Rattle.book.specs.declared.Sizes.{Sizes}
+use Rattle.machine.specs.Machine.{Reaches}
+use Rattle.walk.specs.Answer.{Outcome, Answer}
+use Rattle.walk.specs.Answer.{Unreached as Never, Long as Far, Sentence as Word}
+use Rattle.walk.specs.Cost.{Exact}
+use Rattle.finder.specs.declared.Found.{Found}
+use Rattle.finder.specs.declared.Found.the-variants.{Unreached, Long, Sentence, Refused}
+
+-- 'Its work cells are the first T × T × S × (N + 8) lent, 16 bits each, and are zero afterwards'
+abbrev pub workCells : Sizes → ℕ
+workCells d = d .t * d .t * d .s * (d .n + 8)
+
+abbrev pub cleared : Sizes → List ℕ → List ℕ
+cleared d work = over (replicate (workCells d) 0) work
+
+abbrev pub refused : ℕ → Checked
+refused number = Faulty (record { number = number; place = 0 })
+
+-- the refusals of one pair, in their order: the book's, '10 state S or more', '11 lookahead T or more', '13 work or stack cells too few',
+-- '12 an output too short'; 'a sentence buffer of at least 1,000 bytes'
+unfoldable pub admitsPair : ℕ → ℕ → ℕ → ℕ → Checked → Checked
+admitsPair s z work buffer (Faulty r) = Faulty r
+admitsPair s z work buffer (Valid d) =
+    cond (leb (d .s) s) (refused 10)
+    (cond (leb (d .t) z) (refused 11) (cond (ltb work (workCells d)) (refused 13) (cond (ltb buffer 1000) (refused 12) (Valid d))))
+
+-- those of the whole map: 'S × T cells'
+unfoldable pub admitsMap : ℕ → ℕ → Checked → Checked
+admitsMap work lent (Faulty r) = Faulty r
+admitsMap work lent (Valid d) = cond (ltb work (workCells d)) (refused 13) (cond (ltb lent (d .s * d .t)) (refused 12) (Valid d))
+
+-- the answer as the call gives it, and the sentence that it leaves
+abbrev pub found : Outcome → Found
+found Never = Unreached
+found Far = Long
+found (Word w) = Sentence (length w)
+
+abbrev pub sentence : Outcome → List ℕ
+sentence Never = []
+sentence Far = []
+sentence (Word w) = w
+
+-- one pair: what the call answers and leaves in the work cells and in the sentence buffer. A refusal changes nothing; else the answer is
+-- the right one for the pair, with the machine's stack and reductions unlimited, and terminals ordered by their numbers
+pub data Finds (cells : List ℕ) (s z : ℕ) (work buffer : List ℕ) : Found → List ℕ → List ℕ → Type 0 where
+  refuses : (r : Refusal) → admitsPair s z (length work) (length buffer) (checked (ofCells cells)) ≡ Faulty r
+      → Finds cells s z work buffer (Refused r) work buffer
+  answers : (d : Sizes) (o : Outcome) → admitsPair s z (length work) (length buffer) (checked (ofCells cells)) ≡ Valid d
+      → Answer (λ a. a) (tablesOf cells) s z o → Finds cells s z work buffer (found o) (cleared d work) (over (sentence o) buffer)
+
+-- 'The whole map is S × T cells by state, then terminal: the least length, 1,001 for long, 1,002 for unreached'
+pub record IsMap (cells : List ℕ) (d : Sizes) (map : List ℕ) : Type 0 where
+  pub size : length map ≡ d .s * d .t
+  pub exact : (s z : ℕ) → s < d .s → z < d .t → Exact (λ w. Reaches (tablesOf cells) w z s) (getD map (s * d .t + z) 0)
+
+pub data Maps (cells work lent : List ℕ) : Written → List ℕ → List ℕ → Type 0 where
+  refuses : (r : Refusal) → admitsMap (length work) (length lent) (checked (ofCells cells)) ≡ Faulty r → Maps cells work lent (Unwritten r) work lent
+  answers : (d : Sizes) (map : List ℕ) → admitsMap (length work) (length lent) (checked (ofCells cells)) ≡ Valid d → IsMap cells d map
+      → Maps cells work lent (Count (length map)) (cleared d work) (over map lent)

@@ -1,0 +1,14 @@
+pub mod Finder
+pub mod FinderLaws
+pub mod Rows
+pub mod RowsLaws
+pub mod AdvanceLaws
+pub mod Still
+pub mod StillLaws
+pub mod GoalLaws
+pub mod Choice
+pub mod ChoiceLaws
+pub mod Taking
+pub mod TakingLaws
+pub mod Choosing
+pub mod ChoosingLaws

@@ -1,0 +1,65 @@
+-- `lists::entries::symbol_row` meets its contract: the row is followed symbol by symbol. Assumes nothing.
+use mathlib.Core.Path.{sym, _∙_}
+use native.Mathlib.Omega.{arith}
+use Prim.Native.Nat.{_-_, _≤_}
+use Rattle.number.specs.Number.{numberAt}
+use Rattle.book.specs.RowLaws.{Turns, turns-none, turns-more, turns-stop, turns-done}
+use Rattle.lists.specs.Entry.{symbolFault}
+use borrow.Author.Needs.{needs}
+use Rattle.lists.proofs.entries.symbol_row.Statement.{statement}
+use Rattle.lists.proofs.entries.symbol_row.Tie as tie
+
+abbrev Inv-loop : tie.InvT-loop
+Inv-loop list start len t at₀ i₀ at i = (i ≤ len) × Turns (numberAt list) (symbolFault t) len start i at
+
+abbrev μ-loop : tie.MeasureT-loop
+μ-loop list start len t at₀ i₀ at i = len - i
+
+loop-holds : tie.Need-loop-holds Inv-loop μ-loop
+loop-holds c = (omega arith, turns-none)
+
+read-requires : tie.Need-read-requires Inv-loop μ-loop
+read-requires c κs = search needs
+
+admit-requires : tie.Need-admit-requires Inv-loop μ-loop
+admit-requires c κs = search needs
+
+enum-known-found : tie.Need-enum-known-found Inv-loop μ-loop
+enum-known-found c = search needs
+
+enum-told : tie.Need-enum-told Inv-loop μ-loop
+enum-told c = search needs
+
+returns : tie.Need-returns Inv-loop μ-loop
+returns c =
+    let e = c .enum-told .given .1 in
+    e ∙ turns-stop (c .before .before .before .before .before .loop .inv .1) (c .before .before .before .before .loop-test .taken) (sym (rw (c .before .before .before .read .ensures) at (c .before .before .admit .ensures)) ∙ e)
+
+add-i : tie.Need-add-i Inv-loop μ-loop
+add-i c = search needs
+
+loop-less : tie.Need-loop-less Inv-loop μ-loop
+loop-less c = search needs
+
+loop-again : tie.Need-loop-again Inv-loop μ-loop
+loop-again c = (omega arith, turns-more (c .before .before .before .before .before .before .loop .inv .1) (c .before .before .before .before .before .loop-test .taken) (sym (rw (c .before .before .before .before .read .ensures) at (c .before .before .before .admit .ensures)) ∙ c .before .found .given .1))
+
+returns-2 : tie.Need-returns-2 Inv-loop μ-loop
+returns-2 c = turns-done (c .before .loop .inv .1) (c .loop-test .left)
+
+pub symbol-row-spec : {M : Type 1} → statement M
+symbol-row-spec =
+    tie.close
+    (tie.spec
+    Inv-loop
+    μ-loop
+    loop-holds
+    read-requires
+    admit-requires
+    enum-known-found
+    enum-told
+    returns
+    add-i
+    loop-less
+    loop-again
+    returns-2)

@@ -1,0 +1,60 @@
+-- One entry of a list of sentences: which numbers are in range where, and what reading it at an offset gives. Assumes nothing.
+use mathlib.Core.Bool.{_&&_}
+use mathlib.Core.List.{List}
+use Prim.Native.Nat.{ℕ}
+use lib.Dec.{ltb, leb}
+use lib.ListN.{take, drop}
+use Rattle.number.specs.Number.{numberAt}
+use Rattle.number.specs.declared.Number.{Number}
+use Rattle.number.specs.declared.Number.the-variants.{Value, Refused}
+use Rattle.book.specs.Book.{Row, read, refused, admitted, row}
+use Rattle.book.specs.Range.{unless}
+use Rattle.lists.specs.declared.Entry.{Entry}
+use Rattle.lists.specs.declared.Step.{Step}
+use Rattle.lists.specs.declared.Step.the-variants.{Found, Refused as Faulty}
+
+-- the number of a refusal for v below least, or at the limit or above; 0 for none
+unfoldable pub outside : ℕ → ℕ → ℕ → ℕ → ℕ
+outside least limit number v = unless (leb least v && ltb v limit) number
+
+-- '8 a sentence has over 1,000 symbols'
+abbrev pub lengthFault : ℕ → ℕ
+lengthFault = outside 0 1001 8
+
+-- '7 a symbol is 0, or T or more': the same for each symbol of a sentence
+abbrev pub symbolFault : ℕ → ℕ → ℕ → ℕ
+symbolFault t i = outside 1 t 7
+
+-- the symbols of a sentence, each a number of the list, from the offset where they begin
+abbrev pub symbolRow : ℕ → List ℕ → ℕ → ℕ → Row
+symbolRow t bytes start len = row (numberAt bytes) (symbolFault t) len 0 start
+
+-- '11 lookahead T or more (also in a list, with its place)'
+abbrev pub lookaheadFault : ℕ → ℕ → ℕ
+lookaheadFault t = outside 0 t 11
+
+-- 'for each its length, symbols and lookahead', each number by 1, 2, its range, and so '8 before 7'. The lookahead ends the entry
+abbrev pub ended : ℕ → ℕ → Number → Step
+ended start len (Refused r) = Faulty r
+ended start len (Value z next) = Found (record { start = start; len = len; lookahead = z }) next
+
+-- the symbols were read
+abbrev pub afterSymbols : ℕ → List ℕ → ℕ → ℕ → Row → Step
+afterSymbols t bytes start len (refused r) = Faulty r
+afterSymbols t bytes start len (read symbols at) = ended start len (admitted (lookaheadFault t) at (numberAt bytes at))
+
+-- the length was read
+abbrev pub afterLength : ℕ → List ℕ → Number → Step
+afterLength t bytes (Refused r) = Faulty r
+afterLength t bytes (Value len next) = afterSymbols t bytes (next .at) len (symbolRow t bytes (next .at) len)
+
+-- the entry at an offset of the bytes: where its symbols begin, how many, its lookahead, and the offset after it; or the refusal
+unfoldable pub entryAt : ℕ → List ℕ → ℕ → Step
+entryAt t bytes at = afterLength t bytes (admitted lengthFault at (numberAt bytes at))
+
+-- 'The sentence of an entry is handed back as that part of the list's own bytes'
+abbrev pub part : List ℕ → ℕ → ℕ → List ℕ
+part bytes start len = take len (drop start bytes)
+
+abbrev pub sentence : List ℕ → Entry → List ℕ
+sentence bytes e = part bytes (e .start) (e .len)

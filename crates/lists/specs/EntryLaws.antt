@@ -1,0 +1,250 @@
+-- Laws of one entry: how it is read part by part, and what holds of one that was read. Assumes nothing.
+use mathlib.Core.Path.{_≡_, refl, sym, _∙_, ap}
+use mathlib.Core.List.{List, [], _∷_}
+use Prim.Native.Nat.{ℕ, zero, suc, _+_, _*_, _%_, _-_, _≤_, _<_}
+use native.Mathlib.Decide.{decLe, decLt, ℕ-discrete}
+use native.Mathlib.Numerals.{add-one}
+use native.Mathlib.Omega.{arith}
+use borrow.Author.Tests.{lt-ltb, le-ltb, le-leb, lt-leb, eq-eqb, ne-eqb}
+use lib.ListN.{length, getD, take, drop, length-drop, drop-of-length-le}
+use lib.Seq.{take-all, drop-cons}
+use Rattle.number.specs.Number.{numberAt, first, second, third, value}
+use Rattle.number.specs.NumberLaws.{byte-at, value-is, refused-not-value}
+use Rattle.number.specs.declared.Cursor.{Cursor}
+use Rattle.number.specs.declared.Number.{Number}
+use Rattle.number.specs.declared.Number.the-variants.{Value, Refused}
+use Rattle.number.specs.declared.Refusal.{Refusal}
+use Rattle.book.specs.Book.{Row, read, refused, admitted, row}
+use Rattle.book.specs.BookLaws.{Part, ends-read, ends-refused}
+use Rattle.book.specs.RowLaws.{ends, row-front, row-empty, row-clean}
+use Rattle.lists.specs.Entry.{outside, lengthFault, symbolFault, symbolRow, sentence, entryAt, lookaheadFault, ended, afterSymbols, part}
+use Rattle.lists.specs.declared.Entry.{Entry}
+use Rattle.lists.specs.declared.Step.the-variants.{Found, Refused as Faulty}
+
+-- ---- a part of the bytes, where it runs past their end
+pub part-cut : (bytes : List ℕ) (start len : ℕ) → length bytes - start ≤ len → take (length bytes - start) (drop start bytes) ≡ part bytes start len
+part-cut bytes start len h =
+    let rest : length (drop start bytes) ≤ length bytes - start = rw length-drop (omega arith) in
+    take-all _ (drop start bytes) rest ∙ sym (take-all len (drop start bytes) (omega arith))
+
+pub part-none : (bytes : List ℕ) (start len : ℕ) → length bytes ≤ start → [] ≡ part bytes start len
+part-none bytes start len h = rw (drop-of-length-le bytes h) (sym (take-all len [] (omega arith)))
+
+-- ---- after the symbols, of which only the end is kept
+module _ (t : ℕ) (bytes : List ℕ) (start len : ℕ) where
+  pub symbols-stop : (r : Refusal) → ends (symbolRow t bytes start len) ≡ Refused r → Faulty r ≡ afterSymbols t bytes start len (symbolRow t bytes start len)
+  symbols-stop r e = rw (ends-refused (symbolRow t bytes start len) r e)
+
+  pub symbols-on : (v : ℕ) (next : Cursor) → ends (symbolRow t bytes start len) ≡ Value v next
+      → ended start len (admitted (lookaheadFault t) (next .at) (numberAt bytes (next .at))) ≡ afterSymbols t bytes start len (symbolRow t bytes start len)
+  symbols-on v next e = let (vs, f) = ends-read (symbolRow t bytes start len) v next e in rw f
+
+-- ---- ranges
+pub outside-none : (least limit number v : ℕ) → least ≤ v → v < limit → outside least limit number v ≡ 0
+unfolding outside
+outside-none least limit number v g h = rw (le-leb least v g, lt-ltb v limit h)
+
+pub inside : (least limit k v : ℕ) → outside least limit (suc k) v ≡ 0 → (least ≤ v) × (v < limit)
+unfolding outside
+inside least limit k v e = go (decLe least v) (decLt v limit)
+  where
+    go : Dec (least ≤ v) → Dec (v < limit) → (least ≤ v) × (v < limit)
+    go (yes g) (yes h) = (g, h)
+    go (yes g) (no h) = absurd (omega (arith, rw (le-leb least v g, le-ltb v limit (omega arith)) at e))
+    go (no g) d = absurd (omega (arith, rw (lt-leb least v (omega arith)) at e))
+
+-- a number that was admitted was found, and has no fault
+pub admitted-found : (fault : ℕ → ℕ) (at : ℕ) (n : Number) (v : ℕ) (next : Cursor) → admitted fault at n ≡ Value v next → (n ≡ Value v next) × (fault v ≡ 0)
+admitted-found fault at (Refused r) v next e = absurd (refused-not-value r v (next .at) e)
+admitted-found fault at (Value w c) v next e = go (ℕ-discrete (fault w) 0)
+  where
+    go : Dec (fault w ≡ 0) → (Value w c ≡ Value v next) × (fault v ≡ 0)
+    go (yes z) =
+        let f : Value w c ≡ Value v next = rw (eq-eqb (fault w) 0 z) at e in
+        let g : w ≡ v = cc in
+        (f, rw g at z)
+    go (no z) = absurd (refused-not-value _ v (next .at) (rw (ne-eqb (fault w) 0 z) at e))
+
+-- a row that was read is read by other faults that find none
+pub row-refault : (source : ℕ → Number) (fault other : ℕ → ℕ → ℕ) → ((i v : ℕ) → fault i v ≡ 0 → other i v ≡ 0) → (k i at : ℕ) (vs : List ℕ) (next : ℕ)
+    → row source fault k i at ≡ read vs next → row source other k i at ≡ read vs next
+unfolding row
+row-refault source fault other h zero i at vs next e = e
+row-refault source fault other h (suc k) i at vs next e =
+    let f = row-front source fault k i at vs next e in
+    let r = row-refault source fault other h k (suc i) (f .cursor .at) (f .rest) next (f .onward) in
+    rw (f .found, eq-eqb (other i (f .v)) 0 (h i (f .v) (f .clean)), r)
+    (ap (λ (l : List ℕ). read l next) (sym (f .split)))
+
+-- ---- an entry that was read
+pub record Parts (t : ℕ) (bytes : List ℕ) (at : ℕ) (e : Entry) (next : Cursor) : Type 0 where
+  pub begins : numberAt bytes at ≡ value (e .len) (e .start)
+  pub short : e .len ≤ 1000
+  pub symbols : List ℕ
+  pub last : ℕ
+  pub spelled : symbolRow t bytes (e .start) (e .len) ≡ read symbols last
+  pub looks : numberAt bytes last ≡ Value (e .lookahead) next
+  pub below : e .lookahead < t
+
+faulty-not-found : (r : Refusal) (e : Entry) (next : Cursor) → Faulty r ≡ Found e next → ⊥
+faulty-not-found r e next f = let z : _≡_ {A = ℕ} 0 1 = cc in omega arith
+
+module _ (t : ℕ) (bytes : List ℕ) (at : ℕ) where
+  pub entry-parts : (e : Entry) (next : Cursor) → entryAt t bytes at ≡ Found e next → Parts t bytes at e next
+  unfolding entryAt
+  entry-parts e next f = by-length (admitted lengthFault at (numberAt bytes at)) refl
+    where
+      by-end : (len : ℕ) (c : Cursor) → admitted lengthFault at (numberAt bytes at) ≡ Value len c → (vs : List ℕ) (last : ℕ)
+          → symbolRow t bytes (c .at) len ≡ read vs last → (n : Number) → admitted (lookaheadFault t) last (numberAt bytes last) ≡ n
+          → ended (c .at) len n ≡ Found e next → Parts t bytes at e next
+      by-end len c g vs last h (Refused r) i j = absurd (faulty-not-found r e next j)
+      by-end len c g vs last h (Value z d) i j =
+          let (m, o) = admitted-found lengthFault at (numberAt bytes at) len c g in
+          let (p, q) = admitted-found (lookaheadFault t) last (numberAt bytes last) z d i in
+          let k : _≡_ {A = Entry} (record { start = c .at; len = len; lookahead = z }) e = cc in
+          let l : d ≡ next = cc in
+          let short = inside 0 1001 7 len o in
+          let below = inside 0 t 10 z q in
+          let parts : Parts t bytes at (record { start = c .at; len = len; lookahead = z }) d =
+          record { begins = m; short = omega arith; symbols = vs; last = last; spelled = h; looks = p; below = below .1 } in
+          rw (k, l) at parts
+
+      by-symbols : (len : ℕ) (c : Cursor) → admitted lengthFault at (numberAt bytes at) ≡ Value len c → (w : Row) → symbolRow t bytes (c .at) len ≡ w
+          → afterSymbols t bytes (c .at) len w ≡ Found e next → Parts t bytes at e next
+      by-symbols len c g (refused r) h i = absurd (faulty-not-found r e next i)
+      by-symbols len c g (read vs last) h i = by-end len c g vs last h (admitted (lookaheadFault t) last (numberAt bytes last)) refl i
+
+      by-length : (n : Number) → admitted lengthFault at (numberAt bytes at) ≡ n → Parts t bytes at e next
+      by-length (Refused r) g = absurd (faulty-not-found r e next (rw g at f))
+      by-length (Value len c) g = by-symbols len c g (symbolRow t bytes (c .at) len) refl (rw g at f)
+
+  -- it is the same over more terminals
+  pub entry-wider : (u : ℕ) → t ≤ u → (e : Entry) (next : Cursor) → entryAt t bytes at ≡ Found e next → entryAt u bytes at ≡ Found e next
+  unfolding entryAt
+  entry-wider u h e next f =
+      let p = entry-parts e next f in
+      let wide : (i v : ℕ) → symbolFault t i v ≡ 0 → symbolFault u i v ≡ 0 = λ i v z. (let b = inside 1 t 6 v z in outside-none 1 u 7 v (b .0) (omega arith)) in
+      let row-of : symbolRow u bytes (e .start) (e .len) ≡ read (p .symbols) (p .last) =
+      row-refault (numberAt bytes) (symbolFault t) (symbolFault u) wide (e .len) 0 (e .start) (p .symbols) (p .last) (p .spelled) in
+      let low : lengthFault (e .len) ≡ 0 = outside-none 0 1001 8 (e .len) (omega arith) (omega (arith, p .short)) in
+      let look : lookaheadFault u (e .lookahead) ≡ 0 = outside-none 0 u 11 (e .lookahead) (omega arith) (omega (arith, p .below)) in
+      rw (p .begins, eq-eqb (lengthFault (e .len)) 0 low, row-of, p .looks, eq-eqb (lookaheadFault u (e .lookahead)) 0 look)
+
+-- ---- a number below 128 takes one byte
+third-big : (at a b : ℕ) (s : List ℕ) (v next : ℕ) → v < 128 → third at a b s ≡ value v next → ⊥
+unfolding third
+third-big at a b [] v next h e = refused-not-value _ v next e
+third-big at a b (c ∷ s) v next h e = go (ℕ-discrete c 0) (decLt c 128) (decLt 65535 (a % 128 + 128 * (b % 128) + 16384 * c))
+  where
+    go : Dec (c ≡ 0) → Dec (c < 128) → Dec (65535 < a % 128 + 128 * (b % 128) + 16384 * c) → ⊥
+    go (yes z) d f = refused-not-value _ v next (rw (eq-eqb c 0 z) at e)
+    go (no z) (no d) f = refused-not-value _ v next (rw (ne-eqb c 0 z, le-leb 128 c (omega arith)) at e)
+    go (no z) (yes d) (yes f) = refused-not-value _ v next (rw (ne-eqb c 0 z, lt-leb 128 c d, lt-ltb 65535 _ f) at e)
+    go (no z) (yes d) (no f) =
+        let (i, j) = value-is (a % 128 + 128 * (b % 128) + 16384 * c) (at + 3) v next (rw (ne-eqb c 0 z, lt-leb 128 c d, le-ltb 65535 (a % 128 + 128 * (b % 128) + 16384 * c) (omega arith)) at e) in
+        omega arith
+
+second-big : (at a : ℕ) (s : List ℕ) (v next : ℕ) → v < 128 → second at a s ≡ value v next → ⊥
+unfolding second
+second-big at a [] v next h e = refused-not-value _ v next e
+second-big at a (b ∷ s) v next h e = go (ℕ-discrete b 0) (decLt b 128)
+  where
+    go : Dec (b ≡ 0) → Dec (b < 128) → ⊥
+    go (yes z) d = refused-not-value _ v next (rw (eq-eqb b 0 z) at e)
+    go (no z) (no d) = third-big at a b s v next h (rw (ne-eqb b 0 z, le-ltb b 128 (omega arith)) at e)
+    go (no z) (yes d) =
+        let (i, j) = value-is (a % 128 + 128 * b) (at + 2) v next (rw (ne-eqb b 0 z, lt-ltb b 128 d) at e) in
+        omega arith
+
+pub one-byte : (bytes : List ℕ) (at v : ℕ) (next : Cursor) → v < 128 → numberAt bytes at ≡ Value v next
+    → (at < length bytes) × (v ≡ getD bytes at 0) × (next .at ≡ at + 1)
+unfolding numberAt first
+one-byte bytes at v next h e = go (decLt at (length bytes)) (decLt (getD bytes at 0) 128)
+  where
+    go : Dec (at < length bytes) → Dec (getD bytes at 0 < 128) → (at < length bytes) × (v ≡ getD bytes at 0) × (next .at ≡ at + 1)
+    go (no l) d =
+        let past : length bytes ≤ at = omega arith in
+        absurd (refused-not-value _ v (next .at) (rw (drop-of-length-le bytes past) at e))
+    go (yes l) (no d) = absurd (second-big at (getD bytes at 0) (drop (at + 1) bytes) v (next .at) h (rw (byte-at bytes at l, le-ltb (getD bytes at 0) 128 (omega arith)) at e))
+    go (yes l) (yes d) =
+        let (i, j) = value-is (getD bytes at 0) (at + 1) v (next .at) (rw (byte-at bytes at l, lt-ltb (getD bytes at 0) 128 d) at e) in
+        (l, sym i, sym j)
+
+-- a row of symbols is a part of the bytes
+pub symbols-part : (t : ℕ) (bytes : List ℕ) → t ≤ 128 → (k i at : ℕ) (vs : List ℕ) (next : ℕ) → row (numberAt bytes) (symbolFault t) k i at ≡ read vs next
+    → at ≤ length bytes → Part bytes k at vs next
+symbols-part t bytes few zero i at vs next e h =
+    let (p, q) = row-empty (numberAt bytes) (symbolFault t) i at vs next e in
+    record { part = sym p; after = omega arith; within = omega arith }
+symbols-part t bytes few (suc k) i at vs next e h =
+    let f = row-front (numberAt bytes) (symbolFault t) k i at vs next e in
+    let (a, b) = inside 1 t 6 (f .v) (f .clean) in
+    let (l, p, q) = one-byte bytes at (f .v) (f .cursor) (omega arith) (f .found) in
+    let r = symbols-part t bytes few k (suc i) (f .cursor .at) (f .rest) next (f .onward) (omega arith) in
+    record {
+      part = f .split ∙ rw (p, r .part, q, add-one, drop-cons bytes at 0 l);
+      after = omega (arith, r .after, q);
+      within = omega (arith, r .within, q);
+    }
+
+-- ---- a number that was read ends within the bytes
+third-within : (at a b : ℕ) (s : List ℕ) (v next : ℕ) → third at a b s ≡ value v next → next ≤ at + 2 + length s
+unfolding third
+third-within at a b [] v next e = absurd (refused-not-value _ v next e)
+third-within at a b (c ∷ s) v next e = go (ℕ-discrete c 0) (decLt c 128) (decLt 65535 (a % 128 + 128 * (b % 128) + 16384 * c))
+  where
+    go : Dec (c ≡ 0) → Dec (c < 128) → Dec (65535 < a % 128 + 128 * (b % 128) + 16384 * c) → next ≤ at + 2 + length (c ∷ s)
+    go (yes z) d f = absurd (refused-not-value _ v next (rw (eq-eqb c 0 z) at e))
+    go (no z) (no d) f = absurd (refused-not-value _ v next (rw (ne-eqb c 0 z, le-leb 128 c (omega arith)) at e))
+    go (no z) (yes d) (yes f) = absurd (refused-not-value _ v next (rw (ne-eqb c 0 z, lt-leb 128 c d, lt-ltb 65535 _ f) at e))
+    go (no z) (yes d) (no f) =
+        let (i, j) = value-is (a % 128 + 128 * (b % 128) + 16384 * c) (at + 3) v next (rw (ne-eqb c 0 z, lt-leb 128 c d, le-ltb 65535 (a % 128 + 128 * (b % 128) + 16384 * c) (omega arith)) at e) in
+        omega arith
+
+second-within : (at a : ℕ) (s : List ℕ) (v next : ℕ) → second at a s ≡ value v next → next ≤ at + 1 + length s
+unfolding second
+second-within at a [] v next e = absurd (refused-not-value _ v next e)
+second-within at a (b ∷ s) v next e = go (ℕ-discrete b 0) (decLt b 128)
+  where
+    go : Dec (b ≡ 0) → Dec (b < 128) → next ≤ at + 1 + length (b ∷ s)
+    go (yes z) d = absurd (refused-not-value _ v next (rw (eq-eqb b 0 z) at e))
+    go (no z) (no d) = let h = third-within at a b s v next (rw (ne-eqb b 0 z, le-ltb b 128 (omega arith)) at e) in omega arith
+    go (no z) (yes d) =
+        let (i, j) = value-is (a % 128 + 128 * b) (at + 2) v next (rw (ne-eqb b 0 z, lt-ltb b 128 d) at e) in
+        omega arith
+
+first-within : (at : ℕ) (s : List ℕ) (v next : ℕ) → first at s ≡ value v next → (next ≤ at + length s) × (1 ≤ length s)
+unfolding first
+first-within at [] v next e = absurd (refused-not-value _ v next e)
+first-within at (a ∷ s) v next e = go (decLt a 128)
+  where
+    go : Dec (a < 128) → (next ≤ at + length (a ∷ s)) × (1 ≤ length (a ∷ s))
+    go (no d) = let h = second-within at a s v next (rw (le-ltb a 128 (omega arith)) at e) in (omega arith, omega arith)
+    go (yes d) =
+        let (i, j) = value-is a (at + 1) v next (rw (lt-ltb a 128 d) at e) in
+        (omega arith, omega arith)
+
+pub number-within : (bytes : List ℕ) (at v next : ℕ) → numberAt bytes at ≡ value v next → next ≤ length bytes
+unfolding numberAt
+number-within bytes at v next e = let (h, i) = first-within at (drop at bytes) v next e in omega (arith, length-drop at bytes)
+
+-- ---- the sentence of an entry that was read: 'symbols from 1 to T - 1, one a byte'
+pub record Spelled (t : ℕ) (bytes : List ℕ) (e : Entry) : Type 0 where
+  pub row : symbolRow t bytes (e .start) (e .len) ≡ read (sentence bytes e) (e .start + e .len)
+  pub within : e .start + e .len ≤ length bytes
+  pub short : e .len ≤ 1000
+  pub symbol : (i : ℕ) → i < e .len → (1 ≤ getD (sentence bytes e) i 0) × (getD (sentence bytes e) i 0 < t)
+  pub below : e .lookahead < t
+
+pub entry-spelled : (t : ℕ) (bytes : List ℕ) (at : ℕ) (e : Entry) (next : Cursor) → t ≤ 128 → entryAt t bytes at ≡ Found e next → Spelled t bytes e
+entry-spelled t bytes at e next few f =
+    let p = entry-parts t bytes at e next f in
+    let q = symbols-part t bytes few (e .len) 0 (e .start) (p .symbols) (p .last) (p .spelled) (number-within bytes at (e .len) (e .start) (p .begins)) in
+    let row : symbolRow t bytes (e .start) (e .len) ≡ read (sentence bytes e) (e .start + e .len) = rw (q .part, q .after) at (p .spelled) in
+    record {
+      row = row;
+      within = q .within;
+      short = p .short;
+      symbol = λ i h. inside 1 t 6 _ (row-clean (numberAt bytes) (symbolFault t) (e .len) 0 (e .start) (sentence bytes e) (e .start + e .len) row i h);
+      below = p .below;
+    }
