@@ -1,6 +1,7 @@
 // What sequences reach: one pair, the whole map, the sets.
 mod admission;
 mod choice;
+mod choosing;
 mod rows;
 mod still;
 mod taking;

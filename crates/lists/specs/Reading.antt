@@ -2,6 +2,7 @@
 use mathlib.Core.Path.{_≡_}
 use mathlib.Core.List.{List, [], _∷_}
 use Prim.Native.Nat.{ℕ, zero, suc, _≤_}
+use lib.ListN.{length}
 use Rattle.lists.specs.List.{entries, entriesAt, nextAt}
 use Rattle.lists.specs.declared.Entry.{Entry}
 use Rattle.lists.specs.declared.Next.{Next}
@@ -18,12 +19,13 @@ unfoldable pub turns : List ℕ → ℕ → Rest → List Entry
 turns bytes zero rest = []
 turns bytes (suc k) rest = onto (nextAt bytes (rest .at) (rest .left)) (λ more. turns bytes k more)
 
--- the rest of a list that was checked against a book of t terminals: the entries es stand there, and no more
+-- the rest of a list that was checked against a book of t terminals: the entries es stand there, and nothing after
 pub record Holds (bytes : List ℕ) (rest : Rest) (es : List Entry) : Type 0 where
   pub t : ℕ
   pub few : t ≤ 32
   pub end : ℕ
   pub ahead : entriesAt t bytes (rest .left) (rest .at) ≡ entries es end
+  pub closed : length bytes ≤ end
 
 -- where a reader may stand: 'over a list, checked whole when it starts'
 pub record Stands (bytes : List ℕ) (at left : ℕ) : Type 0 where

@@ -50,7 +50,7 @@ module _ (bytes : List ℕ) where
       record {
         more = record { at = f .next .at; left = rest .left - 1 };
         gives = rw (ne-eqb (rest .left) 0 (omega (arith, k)), wide, i);
-        holds = record { t = h .t; few = h .few; end = h .end; ahead = rw j at (f .onward) };
+        holds = record { t = h .t; few = h .few; end = h .end; ahead = rw j at (f .onward); closed = h .closed };
       }
 
   -- k turns give the first k entries
@@ -76,7 +76,8 @@ module _ (bytes : List ℕ) (es : List Entry) (end : ℕ) where
           let j : entries xs last ≡ entries es end = rw (le-ltb last (length bytes) (omega arith)) at i in
           let ahead : entriesAt t bytes n (next .at) ≡ entries es end = g ∙ j in
           let first : after (numberAt bytes 0) ≡ next .at = rw (admitted-found countFault 0 (numberAt bytes 0) n next f .0) in
-          record { t = t; few = few; end = end; ahead = rw (first, entries-count t bytes n (next .at) es end ahead) ahead }
+          let same : last ≡ end = cc in
+          record { t = t; few = few; end = end; ahead = rw (first, entries-count t bytes n (next .at) es end ahead) ahead; closed = omega arith }
 
       by-entries : (n : ℕ) (next : Cursor) → admitted countFault 0 (numberAt bytes 0) ≡ Value n next → (l : Listed)
           → entriesAt t bytes n (next .at) ≡ l → closed (length bytes) l ≡ entries es end → Holds bytes (record { at = after (numberAt bytes 0); left = length es }) es

@@ -14,7 +14,7 @@ use Rattle.layers.specs.Layer.{entryIn}
 use Rattle.layers.specs.LayerLaws.{Cleared}
 use Rattle.layers.specs.Step.{Step}
 use Rattle.layers.specs.StepLaws.{step-from}
-use Rattle.search.specs.Waiting.{eventIn, Lowered}
+use Rattle.search.specs.Waiting.{eventIn, RowsOn, Lowered}
 use Rattle.search.specs.Settle.{Dropped, cellIn}
 
 module _ (events flags : List ℕ) (row c : ℕ) where
@@ -45,11 +45,6 @@ event-none events row c = event-off events (replicate 32 0) row c (go (decLt (ro
     go : Dec (row / 32 < 32) → getD {A = ℕ} (replicate 32 0) (row / 32) 0 ≡ 0
     go (yes h) = getD-replicate {A = ℕ} 32 (row / 32) 0 0 h
     go (no h) = let out : length {A = ℕ} (replicate 32 0) ≤ row / 32 = omega (arith, length-replicate {A = ℕ} 32 0) in List·getD-eq-default {A = ℕ} (replicate 32 0) 0 out
-
--- the rows of a depth are turned on, and the table is as it was
-pub record RowsOn (k : ℕ) (events flags events′ flags′ : List ℕ) : Type 0 where
-  pub on : ¬ (getD flags′ k 0 ≡ 0)
-  pub same : (row c : ℕ) → c < 32 → eventIn events′ flags′ row c ≡ eventIn events flags row c
 
 pub rows-already : {k : ℕ} {events flags : List ℕ} → ¬ (getD flags k 0 ≡ 0) → RowsOn k events flags events flags
 rows-already n = record { on = n; same = λ row c h. refl }

@@ -7,6 +7,7 @@ use Rattle.book.specs.Tables.{Tables}
 use Rattle.walk.specs.Cost.{plus}
 use Rattle.walk.specs.Claims.{Claims}
 use Rattle.search.specs.Completes.{Completes, Stands}
+use Rattle.search.specs.Waiting.{Progress}
 use Rattle.search.specs.declared.Found.{Found}
 use Rattle.search.specs.declared.Found.the-variants.{At, Nothing}
 
@@ -35,3 +36,9 @@ pub record Reached (B : Tables) (claim : Claims) (G : ℕ → ℕ → ℕ) (stac
 abbrev pub Searched : Tables → Claims → (ℕ → ℕ → ℕ) → List ℕ → ℕ → ℕ → Found → Type 0
 Searched B claim G stack x r (At k g) = Reached B claim G stack x r k g
 Searched B claim G stack x r Nothing = (v : ℕ) → Completes B claim G (reverse stack) x v → v ≤ r → ⊥
+
+-- h states of the stack are left below what was looked at
+pub record Descent (B : Tables) (claim : Claims) (G : ℕ → ℕ → ℕ) (s : List ℕ) (x r h : ℕ) (T : ℕ → ℕ → ℕ) : Type 0 where
+  pub some : 1 ≤ length s
+  pub left : h ≤ length s - 1
+  pub progress : Progress B claim G (topOf s) (belowOf s) x r (length s - 1 - h) T

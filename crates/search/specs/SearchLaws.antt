@@ -13,10 +13,10 @@ use Rattle.walk.specs.Claims.{Claims, Witnessed}
 use Rattle.layers.specs.Step.{Step}
 use Rattle.search.specs.Completes.{Completes, Stands, top}
 use Rattle.search.specs.CompletesLaws.{completes-stands-iff, stands-still, plus-none}
-use Rattle.search.specs.Waiting.{Narrow, Expands, Progress}
+use Rattle.search.specs.Waiting.{Narrow, Expands}
 use Rattle.search.specs.WaitingLaws.{progress-start, progress-done}
 use Rattle.search.specs.Settle.{Here, Settled}
-use Rattle.search.specs.Search.{topOf, belowOf, Reached}
+use Rattle.search.specs.Search.{topOf, belowOf, Reached, Descent}
 
 -- ---- the stack top first
 getD-reverse : (l : List ℕ) (j k : ℕ) → j + k + 1 ≡ length l → getD (reverse l) j 0 ≡ getD l k 0
@@ -79,12 +79,7 @@ reached-still {B} {claim} {G} {x} {k} {g} {s} w a =
     let (same, run) = stands-still w stands in
     (rw (zero, same) at (a .within), λ u. rw (stack-split s (a .some), ← below-drop s (a .some) k (a .index - 1) (a .kept)) (run u))
 
--- ---- from depth to depth: h states of the stack are left below what was looked at
-pub record Descent (B : Tables) (claim : Claims) (G : ℕ → ℕ → ℕ) (s : List ℕ) (x r h : ℕ) (T : ℕ → ℕ → ℕ) : Type 0 where
-  pub some : 1 ≤ length s
-  pub left : h ≤ length s - 1
-  pub progress : Progress B claim G (topOf s) (belowOf s) x r (length s - 1 - h) T
-
+-- ---- from depth to depth
 module _ {B : Tables} {claim : Claims} {G : ℕ → ℕ → ℕ} {x r : ℕ} (s : List ℕ) (some : 1 ≤ length s) where
   -- the top completes
   pub search-top : {q k : ℕ} → k ≡ length s - 1 → q ≡ getD s (length s - 1) 0 → plus 0 (G q x) ≤ r → Reached B claim G s x r k q

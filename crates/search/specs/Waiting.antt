@@ -33,6 +33,11 @@ waitingIn T d X c = T (rowOf d X) c
 unfoldable pub eventIn : List ℕ → List ℕ → ℕ → ℕ → ℕ
 eventIn events flags row c = cond (eqb (getD flags (row / 32) 0) 0) unreached (entryIn events row c)
 
+-- the rows of a depth are turned on, and the table is as it was
+pub record RowsOn (k : ℕ) (events flags events′ flags′ : List ℕ) : Type 0 where
+  pub on : ¬ (getD flags′ k 0 ≡ 0)
+  pub same : (row c : ℕ) → c < 32 → eventIn events′ flags′ row c ≡ eventIn events flags row c
+
 -- candidates for the table: what the machine pops from g under b, at the cost u, over what is left below the first d states, within r
 abbrev pub Expands : Tables → Claims → ℕ → ℕ → ℕ → ℕ → ℕ → ℕ → ℕ → ℕ → Type 0
 Expands B claim d g b u r row c w = (k X : ℕ) × (row ≡ rowOf (d + k) X) × Pops B claim g b u k X c w × (w ≤ r)

@@ -1,6 +1,6 @@
 // From one state: every reduction that pops more than was pushed since, into the table of waiting gotos.
 ghost use mathlib.Core.Path.{_≡_};
-ghost use Prim.Native.Nat.{ℕ, _+_, _*_, _≤_, _<_, max};
+ghost use Prim.Native.Nat.{_+_, _*_, _≤_, _<_, max};
 ghost use lib.ListN.{length};
 ghost use Rattle.book.specs.Tables.{tablesOf};
 ghost use Rattle.book.specs.TablesLaws.{Holds};
@@ -10,8 +10,7 @@ ghost use Rattle.layers.specs.Crossing.{room, claimIn, Quiet};
 ghost use Rattle.layers.specs.Layer.{valueIn};
 ghost use Rattle.layers.specs.LayerLaws.{Cleared};
 ghost use Rattle.layers.specs.Step.{Step};
-ghost use Rattle.search.specs.EventLaws.{RowsOn};
-ghost use Rattle.search.specs.Waiting.{eventIn, Expands, Lowered, Popped, Reduces, ReducesState, ReducesLayer, Longest, Enough};
+ghost use Rattle.search.specs.Waiting.{eventIn, RowsOn, Expands, Lowered, Popped, Reduces, ReducesState, ReducesLayer, Longest, Enough};
 use book::Action;
 use book::Sizes;
 use book::action_at;

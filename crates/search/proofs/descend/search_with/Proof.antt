@@ -9,7 +9,8 @@ use Rattle.layers.specs.Layer.{entryIn}
 use Rattle.search.specs.Waiting.{eventIn}
 use Rattle.search.specs.EventLaws.{event-none}
 use Rattle.search.specs.ExpandLaws.{holds-narrow}
-use Rattle.search.specs.SearchLaws.{search-empty, search-top, Descent, descent-start, descent-more, descent-hit, descent-done}
+use Rattle.search.specs.Search.{Descent}
+use Rattle.search.specs.SearchLaws.{search-empty, search-top, descent-start, descent-more, descent-hit, descent-done}
 use borrow.Author.Needs.{needs}
 use Rattle.search.proofs.descend.search_with.Statement.{statement}
 use Rattle.search.proofs.descend.search_with.Tie as tie
