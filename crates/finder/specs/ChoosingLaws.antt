@@ -42,8 +42,7 @@ top-first : (B : Tables) (stack : List ℕ) (depth : ℕ) → Stacked (B .states
 top-first B stack depth s h =
     let last : depth ≡ suc (depth - 1) = omega (arith, s .some) in
     let inside : depth - 1 < length stack = omega (arith, s .some) in
-    let split : take depth stack ≡ take (depth - 1) stack ++ (getD stack (depth - 1) 0 ∷ []) = ap (λ (n : ℕ). take n stack) last ∙ take-suc stack (depth - 1) 0 inside in
-    (
+    let split : take depth stack ≡ take (depth - 1) stack ++ (getD stack (depth - 1) 0 ∷ []) = ap (λ (n : ℕ). take n stack) last ∙ take-suc stack (depth - 1) 0 inside in (
       getD stack (depth - 1) 0,
       reverse (take (depth - 1) stack),
       ap reverse split ∙ reverse-append (take (depth - 1) stack) (getD stack (depth - 1) 0 ∷ []),

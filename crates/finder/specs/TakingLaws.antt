@@ -37,7 +37,7 @@ module _ {B : Tables} {claim : Claims} {x depth : ℕ} {to stack : List ℕ} {G 
       let long : length (take depth stack) ≡ depth = length-take-le depth stack fits in
       let low : kept < depth = omega (arith, a .kept) in
       let top : topOf (take depth stack) < B .states =
-        rw (top-is (take depth stack) (a .some), long, getD-take depth stack (depth - 1) 0 (omega (arith, s .some))) (s .states (depth - 1) (omega (arith, s .some))) in
+      rw (top-is (take depth stack) (a .some), long, getD-take depth stack (depth - 1) 0 (omega (arith, s .some))) (s .states (depth - 1) (omega (arith, s .some))) in
       let (free, run) = reached-still w a in
       let state = stands-state i (a .stands) top in
       record {

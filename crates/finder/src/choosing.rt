@@ -11,9 +11,9 @@ ghost use Rattle.layers.specs.Crossing.{room, claimIn, Quiet};
 ghost use Rattle.layers.specs.Layer.{entryIn};
 ghost use Rattle.finder.specs.Choosing.{Chose};
 ghost use Rattle.finder.specs.ChoosingLaws.{ToPair};
-use book::Sizes;
 use crate::choice::lowest;
 use crate::taking::take_in;
+use book::Sizes;
 
 // A stack for 1,000 symbols: the start, and at most 128 states more for each.
 fn new_stack() -> [u16; 129001]

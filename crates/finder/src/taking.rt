@@ -9,17 +9,24 @@ ghost use Rattle.walk.specs.Claims.{Closed, Witnessed};
 ghost use Rattle.walk.specs.ShiftLaws.{Ready};
 ghost use Rattle.layers.specs.Crossing.{room, claimIn, Quiet};
 ghost use Rattle.finder.specs.Taking.{Stacked, Taken};
+use crate::still::still;
 use advance::FAR;
 use advance::nearest;
 use advance::push_to_shift;
 use book::Sizes;
-use crate::still::still;
 use search::Found;
 use search::search;
 use walk::UNREACHED;
 
 // The stack is the first depth cells, bottom first, and comes to shift x; answers the new depth.
-pub fn take_in(cells: &[u16], d: Sizes, table: &[u16], stack: &mut [u16], depth: usize, x: usize) -> usize
+pub fn take_in(
+    cells: &[u16],
+    d: Sizes,
+    table: &[u16],
+    stack: &mut [u16],
+    depth: usize,
+    x: usize,
+) -> usize
     requires { ⌜ Holds d (now cells) ⌝ }
     requires { ⌜ (x < d .t) × (room d ≤ length (now table)) ⌝ }
     requires { ⌜ Quiet (tablesOf (now cells)) (claimIn d (now table)) ⌝ }
