@@ -17,6 +17,7 @@ distanceIn dist = valueIn dist (replicate 128 1)
 
 -- each entry is the least cost of the words that reach its pair
 pub record StartTable (d : Sizes) (cells dist : List ℕ) : Type 0 where
+  pub size : length dist ≡ 4096
   pub exact : (q z : ℕ) → q < d .s → z < d .t → Exact (λ w. Reaches (tablesOf cells) w z q) (entryIn dist q z)
 
 -- a set of pairs: 0 at its members, and unreached elsewhere
@@ -31,4 +32,5 @@ pub record GoalIn (d : Sizes) (goals : List ℕ) (s z : ℕ) : Type 0 where
 
 -- each entry (q, a) is the least cost of a walk from q, with first terminal a, to a goal pair
 pub record GoalTable (d : Sizes) (cells goals dist : List ℕ) : Type 0 where
+  pub size : length dist ≡ 4096
   pub exact : (q a : ℕ) → q < d .s → a < d .t → Exact (λ w. (n s z : ℕ) × GoalIn d goals s z × Walk (tablesOf cells) q a w z n s) (entryIn dist q a)

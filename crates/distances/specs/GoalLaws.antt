@@ -185,6 +185,7 @@ module _ {d : Sizes} {cells table goals : List ℕ} (h : Holds d cells) (t : Cro
   pub goal-table : {dist : List ℕ} → Drawn (tablesOf cells) (claimIn d table) goals dist
       → Each (λ q. Each (λ a l. Nearest (tablesOf cells) (claimIn d table) q a (distanceIn l)) (d .t)) (d .s) dist → GoalTable d cells goals dist
   goal-table {dist} w near = record {
+    size = w .bounded .size;
     exact = λ q a hq ha. rw (← distance-entry dist q a (omega (arith, h .small .states)))
         (goal-exact (in-range h) (table-closed h t) (table-witnessed h t) (λ s z g. rw (terminals-are h) (g .terminal)) (goal-least end (rw (terminals-are h) ha)));
   }

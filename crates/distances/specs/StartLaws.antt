@@ -109,6 +109,7 @@ module _ {d : Sizes} {cells : List ℕ} (h : Holds d cells) where
   pub start-table : {table dist : List ℕ} → CrossingTable d cells table → Arrived (tablesOf cells) (claimIn d table) dist
       → Settled (tablesOf cells) (claimIn d table) dist → StartTable d cells dist
   start-table {table} {dist} t a s = record {
+    size = a .size;
     exact = λ q z hq hz. rw (← distance-entry dist q z (omega (arith, h .small .states)))
         (start-exact (in-range h) (table-closed h t) (table-witnessed h t) (rw (terminals-are h) hz)
         (start-least record { start = a .start; closed = s .closed; attained = a .attained } (rw (terminals-are h) hz)));

@@ -68,7 +68,13 @@ pub record IsMap (cells : List ℕ) (d : Sizes) (map : List ℕ) : Type 0 where
   pub size : length map ≡ d .s * d .t
   pub exact : (s z : ℕ) → s < d .s → z < d .t → Exact (λ w. Reaches (tablesOf cells) w z s) (getD map (s * d .t + z) 0)
 
+-- a map at the front of the cells that were lent
+pub record Filled (cells : List ℕ) (d : Sizes) (lent left : List ℕ) : Type 0 where
+  pub whole : List ℕ
+  pub right : IsMap cells d whole
+  pub front : left ≡ over whole lent
+
 pub data Maps (cells work lent : List ℕ) : Written → List ℕ → List ℕ → Type 0 where
-  refuses : (r : Refusal) → admitsMap (length work) (length lent) (checked (ofCells cells)) ≡ Faulty r → Maps cells work lent (Unwritten r) work lent
-  answers : (d : Sizes) (map : List ℕ) → admitsMap (length work) (length lent) (checked (ofCells cells)) ≡ Valid d → IsMap cells d map
+  declines : (r : Refusal) → admitsMap (length work) (length lent) (checked (ofCells cells)) ≡ Faulty r → Maps cells work lent (Unwritten r) work lent
+  fills : (d : Sizes) (map : List ℕ) → admitsMap (length work) (length lent) (checked (ofCells cells)) ≡ Valid d → IsMap cells d map
       → Maps cells work lent (Count (length map)) (cleared d work) (over map lent)

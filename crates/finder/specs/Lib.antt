@@ -2,6 +2,7 @@ pub mod Finder
 pub mod FinderLaws
 pub mod Rows
 pub mod RowsLaws
+pub mod MapLaws
 pub mod AdvanceLaws
 pub mod Still
 pub mod StillLaws
@@ -12,3 +13,5 @@ pub mod Taking
 pub mod TakingLaws
 pub mod Choosing
 pub mod ChoosingLaws
+pub mod Pair
+pub mod PairLaws

@@ -2,11 +2,14 @@
 mod admission;
 mod choice;
 mod choosing;
+mod pair;
 mod rows;
 mod still;
 mod taking;
+mod whole_map;
 
 use number::Refusal;
+pub use whole_map::map;
 
 // What the finder answers for one pair; a sentence stands at the front of the lent buffer.
 pub enum Found {

@@ -1,0 +1,55 @@
+-- `finder::whole_map::map` meets its contract: what is admitted is filled. Assumes nothing.
+use native.Mathlib.Omega.{arith}
+use mathlib.Core.Path.{refl, sym, _∙_}
+use Rattle.book.specs.TablesLaws.{valid-holds}
+use Rattle.book.specs.RangeLaws.{actions-few}
+use Rattle.finder.specs.Finder.{declines}
+use Rattle.finder.specs.MapLaws.{map-admitted, map-answered}
+use borrow.Author.Needs.{needs}
+use Rattle.finder.proofs.whole_map.map.Statement.{statement}
+use Rattle.finder.proofs.whole_map.map.Tie as tie
+use Rattle.finder.proofs.whole_map.map.Reads as reads
+use Rattle.finder.proofs.whole_map.map.Lts as lts
+use Rattle.finder.proofs.admission.admit_map.Reads as admit-map-reads
+use Rattle.finder.proofs.whole_map.fill.Reads as fill-reads
+
+admit-map-requires : tie.Need-admit-map-requires
+admit-map-requires c κs = search needs
+
+enum-known-r : tie.Need-enum-known-r
+enum-known-r c = search needs
+
+enum-known-d : tie.Need-enum-known-d
+enum-known-d c = search needs
+
+fill-requires : tie.Need-fill-requires
+fill-requires c κs = let a = (map-admitted _ _ _ _ (sym (c .before .before .before .before .before .admit-map .ensures) ∙ c .before .before .before .d .given .1)) in (valid-holds _ _ (a .book), (a .room, a .enough))
+
+mul-t17 : tie.Need-mul-t17
+mul-t17 c = omega (arith, actions-few _ (valid-holds _ _ ((map-admitted _ _ _ _ (sym (c .before .before .before .before .before .before .before .before .before .before .admit-map .ensures) ∙ c .before .before .before .before .before .before .before .before .d .given .1)) .book) .small))
+
+returns : tie.Need-returns
+returns c = declines _ (sym (c .before .before .before .admit-map .ensures) ∙ c .before .r .given .1)
+
+same-length : tie.Need-same-length
+same-length c = search needs
+
+same-length-2 : tie.Need-same-length-2
+same-length-2 c = search needs
+
+returns-2 : tie.Need-returns-2
+returns-2 c = map-answered (sym (c .before .before .before .before .before .before .before .before .before .before .admit-map .ensures) ∙ c .before .before .before .before .before .before .before .before .d .given .1) (c .before .before .before .before .fill .ensures .0) (c .before .before .before .before .fill .ensures .1) refl
+
+pub map-spec : {M : Type 1} → statement M
+map-spec =
+    tie.close
+    (tie.spec
+    admit-map-requires
+    enum-known-r
+    enum-known-d
+    fill-requires
+    mul-t17
+    returns
+    same-length
+    same-length-2
+    returns-2)

@@ -1,0 +1,48 @@
+// The whole map: for every state and lookahead the least length of what reaches the pair.
+ghost use mathlib.Core.Path.{_≡_};
+ghost use Prim.Native.Nat.{_*_, _≤_};
+ghost use lib.ListN.{length};
+ghost use Rattle.book.specs.TablesLaws.{Holds};
+ghost use Rattle.finder.specs.Finder.{workCells, cleared, Filled, Maps};
+use crate::admission::admit_map;
+use crate::admission::clear;
+use crate::admission::work_cells;
+use crate::rows::copy_rows;
+use book::Checked;
+use book::Sizes;
+use book::Written;
+use crossings::crossings;
+use distances::from_start;
+use walk::UNREACHED;
+
+// The map of an accepted book, in room that is enough.
+fn fill(cells: &[u16], d: Sizes, work: &mut [u16], lent: &mut [u16])
+    requires { ⌜ Holds d (now cells) ⌝ }
+    requires { ⌜ (workCells d ≤ length (now work)) × (d .s * d .t ≤ length (now lent)) ⌝ }
+    ensures { λ _. ⌜ Filled (now (cells .entry)) d (now (lent .entry)) (now (lent .exit)) ⌝ }
+    ensures { λ _. ⌜ now (work .exit) ≡ cleared d (now (work .entry)) ⌝ }
+{
+    crossings(cells, d, work);
+    let mut dist = [UNREACHED; 4096];
+    from_start(cells, d, work, &mut dist);
+    let s = d.s;
+    let t = d.t;
+    copy_rows(&dist, s, t, lent);
+    let n = work_cells(d);
+    clear(work, n);
+}
+
+// Writes S × T cells by state, then terminal, and says how many.
+pub fn map(cells: &[u16], work: &mut [u16], lent: &mut [u16]) -> Written
+    ensures { λ r. ⌜ Maps (now (cells .entry)) (now (work .entry)) (now (lent .entry)) r (now (work .exit)) (now (lent .exit)) ⌝ }
+{
+    match admit_map(cells, work.len(), lent.len()) {
+        Checked::Refused(r) => Written::Refused(r),
+        Checked::Valid(d) => {
+            fill(cells, d, work, lent);
+            let s = d.s;
+            let t = d.t;
+            Written::Count(s * t)
+        }
+    }
+}
