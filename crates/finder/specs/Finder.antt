@@ -8,7 +8,7 @@ use lib.ListN.{length, getD, replicate}
 use Rattle.number.specs.Lent.{over}
 use Rattle.number.specs.declared.Refusal.{Refusal}
 use Rattle.book.specs.Book.{ofCells, checked}
-use Rattle.book.specs.Tables.{tablesOf}
+use Rattle.book.specs.Tables.{Tables, tablesOf}
 use Rattle.book.specs.declared.Checked.{Checked}
 use Rattle.book.specs.declared.Checked.the-variants.{Valid, Refused as Faulty}
 use Rattle.book.specs.declared.Written.{Written}
@@ -54,6 +54,13 @@ abbrev pub sentence : Outcome → List ℕ
 sentence Never = []
 sentence Far = []
 sentence (Word w) = w
+
+-- the right answer for the pair, with its sentence at the front of the buffer
+pub record Answered (B : Tables) (s z : ℕ) (buffer : List ℕ) (r : Found) (left : List ℕ) : Type 0 where
+  pub outcome : Outcome
+  pub right : Answer (λ a. a) B s z outcome
+  pub told : r ≡ found outcome
+  pub front : left ≡ over (sentence outcome) buffer
 
 -- one pair: what the call answers and leaves in the work cells and in the sentence buffer. A refusal changes nothing; else the answer is
 -- the right one for the pair, with the machine's stack and reductions unlimited, and terminals ordered by their numbers

@@ -15,3 +15,4 @@ pub mod Choosing
 pub mod ChoosingLaws
 pub mod Pair
 pub mod PairLaws
+pub mod FindLaws

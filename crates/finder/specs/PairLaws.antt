@@ -1,20 +1,34 @@
 -- Laws of one pair as a goal: the least cost to go from the start is the least length of the words that reach it. Assumes nothing.
 use mathlib.Core.List.{List}
-use mathlib.Core.Logic.{_⊎_, inl, inr, ⊎-elim}
+use mathlib.Core.Logic.{_⊎_, inl, inr, ⊎-elim, _↔_}
 use mathlib.Core.Path.{_≡_, refl, sym, _∙_}
 use Prim.Native.Nat.{ℕ, _+_, _*_, _≤_, _<_, min}
 use native.Mathlib.Decide.{decLt, ℕ-discrete}
 use native.Mathlib.Omega.{arith}
 use lib.ListN.{length, getD, set, replicate, length-set, length-replicate, getD-replicate}
 use lib.Seq.{getD-set-same, getD-set-other}
-use Rattle.book.specs.Tables.{Tables}
-use Rattle.book.specs.TablesLaws.{InRange}
+use Rattle.book.specs.Tables.{Tables, tablesOf}
+use Rattle.book.specs.TablesLaws.{InRange, Holds, in-range}
+use Rattle.book.specs.declared.Sizes.{Sizes}
 use Rattle.machine.specs.Machine.{Reaches}
 use Rattle.layers.specs.Layer.{entryIn}
-use Rattle.walk.specs.Cost.{unreached, cost, cap, Exact}
+use Rattle.walk.specs.Cost.{long, unreached, cost, cap, Exact}
+use Rattle.walk.specs.CostLaws.{exact-map}
+use Rattle.walk.specs.Answer.{Long, Answer}
+use Rattle.walk.specs.Answer.{Unreached as Never, Sentence as Word}
+use Rattle.walk.specs.AnswerLaws.{exact-unreached}
+use Rattle.layers.specs.Crossing.{claimIn}
+use Rattle.layers.specs.CrossingLaws.{terminals-are, states-are}
+use Rattle.crossings.specs.Crossings.{CrossingTable}
+use Rattle.distances.specs.TableLaws.{table-closed, table-witnessed}
+use Rattle.distances.specs.Distances.{Goals, GoalIn, GoalTable}
 use Rattle.walk.specs.Walk.{Walk, first}
 use Rattle.walk.specs.WalkLaws.{reaches-walk, walk-reaches, walk-terminal}
-use Rattle.finder.specs.ChoosingLaws.{OnePair}
+use Rattle.finder.specs.ChoosingLaws.{OnePair, ToPair}
+use Rattle.finder.specs.Choosing.{Chose}
+use Rattle.finder.specs.GoalLaws.{exact-least}
+use Rattle.finder.specs.Finder.{Answered}
+use Rattle.finder.specs.declared.Found.the-variants.{Unreached, Long as Far′, Sentence}
 use Rattle.finder.specs.Pair.{Single, Minimum}
 
 -- a store into an array that is unreached everywhere
@@ -60,3 +74,64 @@ start-exact {B} {s} {z} {m} {G} i hz e x = record {
 pub first-row : (to : List ℕ) (a : ℕ) → entryIn to 0 a ≡ getD to a 0
 unfolding entryIn
 first-row to a = let same : 0 * 32 + a ≡ a = omega arith in rw same
+
+-- ---- the goal array of one pair
+one-of : (s z q a : ℕ) → ((q ≡ s) × (a ≡ z)) ⊎ (q ≡ s → a ≡ z → ⊥)
+one-of s z q a = go (ℕ-discrete q s) (ℕ-discrete a z)
+  where
+    go : Dec (q ≡ s) → Dec (a ≡ z) → ((q ≡ s) × (a ≡ z)) ⊎ (q ≡ s → a ≡ z → ⊥)
+    go (yes e) (yes f) = inl (e, f)
+    go (yes e) (no f) = inr (λ i j. f j)
+    go (no e) f = inr (λ i j. e i)
+
+pub single-goals : {s z : ℕ} {to : List ℕ} → Single s z to → Goals to
+single-goals {s} {z} {to} x = record {
+  size = x .size;
+  marks = λ q a hq ha. ⊎-elim (λ (e, f). inl (rw (e, f) (x .here))) (λ n. inr (x .elsewhere q a hq ha n)) (one-of s z q a);
+}
+
+module _ {d : Sizes} {cells goals dist : List ℕ} {s z : ℕ} (h : Holds d cells) (x : Single s z goals) (hs : s < d .s) (hz : z < d .t) (g : GoalTable d cells goals dist) where
+  goal-pair : (q a : ℕ) → GoalIn d goals q a → OnePair s z q a
+  goal-pair q a m = ⊎-elim (λ p. p) (λ n. absurd (omega (arith, m .mark, x .elsewhere q a (m .state) (omega (arith, m .terminal, h .small .terminals)) n))) (one-of s z q a)
+
+  pair-goal : (q a : ℕ) → OnePair s z q a → GoalIn d goals q a
+  pair-goal q a (e, f) = record { state = omega (arith, h .small .states); terminal = rw f hz; mark = rw (e, f) (x .here) }
+
+  -- to a goal is to the pair
+  ends : (q a : ℕ) (w : List ℕ) → ((n s′ z′ : ℕ) × GoalIn d goals s′ z′ × Walk (tablesOf cells) q a w z′ n s′)
+      ↔ ((n s′ z′ : ℕ) × OnePair s z s′ z′ × Walk (tablesOf cells) q a w z′ n s′)
+  ends q a w = (λ (n, s′, z′, j, r). (n, s′, z′, goal-pair s′ z′ j, r), λ (n, s′, z′, j, r). (n, s′, z′, pair-goal s′ z′ j, r))
+
+  pub pair-exact : (q a : ℕ) → q < d .s → a < d .t → Exact (λ w. (n s′ z′ : ℕ) × OnePair s z s′ z′ × Walk (tablesOf cells) q a w z′ n s′) (entryIn dist q a)
+  pair-exact q a hq ha = exact-map (ends q a) (g .exact q a hq ha)
+
+  pub pair-reached : {n : ℕ} → Minimum (entryIn dist 0) (d .t) n → Exact (λ w. Reaches (tablesOf cells) w z s) n
+  pair-reached m =
+      let t = terminals-are h in
+      start-exact {G = entryIn dist 0} (in-range h) (rw t hz) (λ a ha. pair-exact 0 a (h .small .some-state) (rw t at ha)) (rw t m)
+
+  pub to-pair : {table : List ℕ} → CrossingTable d cells table → ToPair (tablesOf cells) (claimIn d table) s z (entryIn dist)
+  to-pair t q a hq ha =
+      exact-least {Goal = OnePair s z} (in-range h) (table-closed h t) (table-witnessed h t) (λ s′ z′ (e, f). rw (f, terminals-are h) hz)
+      (pair-exact q a (rw (states-are h) at hq) (rw (terminals-are h) at ha))
+
+-- ---- the answers
+pub answer-long : {B : Tables} {s z n : ℕ} → Exact (λ w. Reaches B w z s) n → long ≤ n → n < unreached → Answer (λ a. a) B s z Long
+answer-long e g h = (
+  ⊎-elim (λ u. absurd (omega arith)) (λ (w, r, u). (w, r)) (e .attained),
+  λ w r. omega (arith, e .least w r),
+)
+
+pub answered-unreached : {B : Tables} {s z n : ℕ} {buffer : List ℕ} → Exact (λ w. Reaches B w z s) n → unreached ≤ n → Answered B s z buffer Unreached buffer
+answered-unreached {n} e h = record {
+  outcome = Never;
+  right = let same : n ≡ unreached = ⊎-elim (λ u. u) (λ (w, r, u). omega (arith, u)) (e .attained) in exact-unreached (λ a. a) _ _ _ (rw same at e);
+  told = refl;
+  front = refl;
+}
+
+pub answered-long : {B : Tables} {s z n : ℕ} {buffer : List ℕ} → Exact (λ w. Reaches B w z s) n → long ≤ n → n < unreached → Answered B s z buffer Far′ buffer
+answered-long e g h = record { outcome = Long; right = answer-long e g h; told = refl; front = refl }
+
+pub answered-sentence : {B : Tables} {s z n : ℕ} {buffer left : List ℕ} → Chose B s z n buffer left → Answered B s z buffer (Sentence n) left
+answered-sentence c = record { outcome = Word (c .word); right = c .answer; told = rw (c .count); front = c .front }

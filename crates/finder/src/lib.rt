@@ -1,7 +1,9 @@
 // What sequences reach: one pair, the whole map, the sets.
 mod admission;
+mod answer;
 mod choice;
 mod choosing;
+mod one_pair;
 mod pair;
 mod rows;
 mod still;
@@ -9,6 +11,7 @@ mod taking;
 mod whole_map;
 
 use number::Refusal;
+pub use one_pair::find;
 pub use whole_map::map;
 
 // What the finder answers for one pair; a sentence stands at the front of the lent buffer.
