@@ -35,13 +35,13 @@ pub merged-store : {old new : List ℕ} {r : ℕ} (g j v w : ℕ) → g < 128 �
     → Merged (λ q z w′. (q ≡ g) × (z ≡ j) × (w′ ≡ w)) r old new
 merged-store {old} g j v w hg hj h e (kept l) = record {
   size = h;
-  step = rw (set-getD old (g * 32 + j) 0) at (step-least old g j w (getD old (g * 32 + j) 0) v (getD old (g * 32 + j) 0) hg hj h (omega arith) refl e);
+  step = rw (set-getD old (g * 32 + j) 0) at (step-least old g j w (getD old (g * 32 + j) 0) v (getD old (g * 32 + j) 0) hj (omega arith) (omega arith) refl e);
   sum = omega arith;
   same = λ o. refl;
 }
 merged-store {old} g j v w hg hj h e (stored l) = record {
   size = length-set old (g * 32 + j) v ∙ h;
-  step = step-least old g j w (getD old (g * 32 + j) 0) v v hg hj h (omega arith) refl e;
+  step = step-least old g j w (getD old (g * 32 + j) 0) v v hj (omega arith) (omega arith) refl e;
   sum = omega (arith, total-set old (g * 32 + j) v (omega arith));
   same = λ o. absurd (omega (arith, o));
 }

@@ -9,7 +9,7 @@ use lib.ListN.{length, getD, drop}
 use Rattle.book.specs.Tables.{Tables}
 use Rattle.book.specs.TablesLaws.{InRange}
 use Rattle.walk.specs.Cost.{unreached, cost, cap, plus}
-use Rattle.walk.specs.CostLaws.{plus-mono, plus-comm}
+use Rattle.walk.specs.CostLaws.{plus-mono}
 use Rattle.walk.specs.Claims.{Claims, Claimed, ClaimedGets, arriving, popping, Closed, Witnessed}
 use Rattle.walk.specs.ClaimsLaws.{witnessed-above, closed-gets-below}
 use Rattle.walk.specs.ShiftLaws.{Ready}
@@ -17,7 +17,7 @@ use Rattle.walk.specs.Walk.{Walk, here, shifted, crossed, first}
 use Rattle.machine.specs.Machine.{Steps}
 use Rattle.walk.specs.WalkLaws.{walk-first}
 use Rattle.search.specs.Completes.{Completes, stops, pops, Stands, top, falls}
-use Rattle.search.specs.CompletesLaws.{completes-stands-iff, plus-none, stands-still}
+use Rattle.search.specs.CompletesLaws.{completes-stands-iff, sum-within, stands-still}
 use Rattle.advance.specs.Nearest.{far, Nearest, Shifts}
 use Rattle.advance.specs.NearestLaws.{nearest-least}
 
@@ -27,7 +27,7 @@ pub record Still (B : Tables) (x : ℕ) (to : List ℕ) (G : ℕ → ℕ → ℕ
   pub off : (q : ℕ) → q < B .states → G q x ≡ 0 → getD to q 0 < far
 
 pub plus-rest : (x y : ℕ) → plus x y ≤ 0 → y ≡ 0
-plus-rest x y h = plus-none y x (omega (arith, plus-comm x y))
+plus-rest x y h = omega (arith, sum-within x y 0 (omega arith) h)
 
 -- a walk begins in a state of the tables
 walk-from : {B : Tables} {q a z n q′ : ℕ} {w : List ℕ} → InRange B → Walk B q a w z n q′ → q′ < B .states → q < B .states
@@ -70,7 +70,7 @@ module _ {B : Tables} {claim : Claims} {x : ℕ} {to : List ℕ} {G : ℕ → �
   pub still-stands : {q k g b u : ℕ} {st : List ℕ} → q < B .states → Stands B claim q st x k g b u → plus u (G g b) ≤ 0
       → (g < B .states) × (getD to g 0 < far) × ((v : List ℕ) → Steps B (q ∷ st) (x ∷ v) (g ∷ drop (k - 1) st) (x ∷ v))
   still-stands {g} {b} {u} hq s h =
-      let free : u ≡ 0 = plus-none u (G g b) h in
+      let free : u ≡ 0 = omega (arith, sum-within u (G g b) 0 (omega arith) h) in
       let (same, run) = stands-still w (rw free at s) in
       let state = stands-state i s hq in
       (state, f .off g state (rw same at (plus-rest u (G g b) h)), run)

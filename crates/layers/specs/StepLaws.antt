@@ -68,31 +68,27 @@ step-from e s = record {
 }
 
 -- the least of x, which stood at (g, j), and w is stored there
-pub step-least : (l : List ℕ) (g j w x y r : ℕ) → g < 128 → j < 32 → length l ≡ 4096 → r ≡ min x y → x ≡ getD l (g * 32 + j) 0 → y ≡ w
+pub step-least : (l : List ℕ) (g j w x y r : ℕ) → j < 32 → g * 32 + j < length l → r ≡ min x y → x ≡ getD l (g * 32 + j) 0 → y ≡ w
     → Step (λ q z w′. (q ≡ g) × (z ≡ j) × (w′ ≡ w)) (entryIn l) (entryIn (set l (g * 32 + j) r))
 unfolding entryIn
-step-least l g j w x y r hg hj size m ex ey = record {
+step-least l g j w x y r hj size m ex ey = record {
   fall = λ q z h. fall q z (ℕ-discrete (q * 32 + z) (g * 32 + j));
   below = λ q z w′ (eq, ez, ew) h u. rw (eq, ez, ew) (omega (arith, there));
-  attained = λ q z h. attained q z h (ℕ-discrete (q * 32 + z) (g * 32 + j));
+  attained = λ q z h. attained q z h (ℕ-discrete (q * 32 + z) (g * 32 + j)) (decLt (getD l (g * 32 + j) 0) w);
 }
   where
     there : getD (set l (g * 32 + j) r) (g * 32 + j) 0 ≡ r
-    there = getD-set-same l (g * 32 + j) r 0 (omega arith)
+    there = getD-set-same l (g * 32 + j) r 0 size
 
     fall : (q z : ℕ) → Dec (q * 32 + z ≡ g * 32 + j) → getD (set l (g * 32 + j) r) (q * 32 + z) 0 ≤ getD l (q * 32 + z) 0
     fall q z (yes e) = rw e (omega (arith, there))
     fall q z (no n) = rw (getD-set-other l (g * 32 + j) (q * 32 + z) r 0 n) (le-refl _)
 
-    pick : (q z : ℕ) → z < 32 → q * 32 + z ≡ g * 32 + j → Dec (getD l (g * 32 + j) 0 < w)
+    attained : (q z : ℕ) → z < 32 → Dec (q * 32 + z ≡ g * 32 + j) → Dec (getD l (g * 32 + j) 0 < w)
         → (getD (set l (g * 32 + j) r) (q * 32 + z) 0 ≡ getD l (q * 32 + z) 0) ⊎ ((q ≡ g) × (z ≡ j) × (getD (set l (g * 32 + j) r) (q * 32 + z) 0 ≡ w))
-    pick q z h e (yes s) = inl (rw e (omega (arith, there)))
-    pick q z h e (no n) = inr (omega arith, omega arith, rw e (omega (arith, there)))
-
-    attained : (q z : ℕ) → z < 32 → Dec (q * 32 + z ≡ g * 32 + j)
-        → (getD (set l (g * 32 + j) r) (q * 32 + z) 0 ≡ getD l (q * 32 + z) 0) ⊎ ((q ≡ g) × (z ≡ j) × (getD (set l (g * 32 + j) r) (q * 32 + z) 0 ≡ w))
-    attained q z h (yes e) = pick q z h e (decLt (getD l (g * 32 + j) 0) w)
-    attained q z h (no n) = inl (getD-set-other l (g * 32 + j) (q * 32 + z) r 0 n)
+    attained q z h (yes e) (yes s) = inl (rw e (omega (arith, there)))
+    attained q z h (yes e) (no n) = inr (omega arith, omega arith, rw e (omega (arith, there)))
+    attained q z h (no n) d = inl (getD-set-other l (g * 32 + j) (q * 32 + z) r 0 n)
 
 -- a pass over the row of a state that is on, seen through the flags
 pub step-on : {P : ℕ → ℕ → ℕ → Type 0} (old new flags : List ℕ) (g : ℕ) → ¬ (getD flags g 0 ≡ 0) → ((q z w : ℕ) → P q z w → q ≡ g)

@@ -7,4 +7,5 @@ pub use row::level;
 pub use row::turn_on;
 pub use transition::crossing_row;
 pub use transition::lengthen;
+pub use transition::lengthen_within;
 pub use transition::opens;

@@ -6,6 +6,8 @@ ghost use lib.ListN.{length};
 ghost use Rattle.book.specs.Range.{Small};
 ghost use Rattle.book.specs.Tables.{tablesOf};
 ghost use Rattle.book.specs.TablesLaws.{Holds};
+ghost use Rattle.walk.specs.Cost.{long, cut};
+ghost use Rattle.walk.specs.Layers.{cutAt};
 ghost use Rattle.walk.specs.WalkLaws.{Opens};
 ghost use Rattle.layers.specs.Crossing.{room, crossingRow, claimIn, Quiet};
 ghost use Rattle.layers.specs.Layer.{Sized, valueIn, Lengthened};
@@ -18,7 +20,7 @@ use book::Sizes;
 use book::action_at;
 use book::goto_at;
 use book::production_length;
-use walk::UNREACHED;
+use walk::LONG;
 use walk::add;
 
 // Whether a walk of one transition or more can begin in q under a: by a shift or an empty reduction.
@@ -127,11 +129,12 @@ fn gotos_from(
     }
 }
 
-// From (q, a), reached at the cost v: every transition.
+// From (q, a), reached at the cost v: every transition, if v is within the bound.
 fn leave(
     cells: &[u16],
     d: Sizes,
     table: &[u16],
+    bound: u16,
     q: usize,
     a: usize,
     v: u16,
@@ -139,13 +142,13 @@ fn leave(
     flags: &mut [u8; 128],
 )
     requires { ⌜ Holds d (now cells) ⌝ }
-    requires { ⌜ (q < d .s) × (a < d .t) × (room d ≤ length (now table)) ⌝ }
+    requires { ⌜ (q < d .s) × (a < d .t) × (room d ≤ length (now table)) × (bound ≤ long) ⌝ }
     requires { ⌜ Quiet (tablesOf (now cells)) (claimIn d (now table)) ⌝ }
     requires { ⌜ Sized (now values) (now flags) ⌝ }
     ensures { λ _. ⌜ Sized (now (values .exit)) (now (flags .exit)) ⌝ }
-    ensures { λ _. ⌜ Step (Leaves d (tablesOf (now (cells .entry))) (claimIn d (now (table .entry))) q a v) (valueIn (now (values .entry)) (now (flags .entry))) (valueIn (now (values .exit)) (now (flags .exit))) ⌝ }
+    ensures { λ _. ⌜ Step (Leaves d (tablesOf (now (cells .entry))) (claimIn d (now (table .entry))) q a (cut bound v)) (valueIn (now (values .entry)) (now (flags .entry))) (valueIn (now (values .exit)) (now (flags .exit))) ⌝ }
 {
-    if v >= UNREACHED {
+    if v > bound {
         return;
     }
     if !opens(cells, d, q, a) {
@@ -160,6 +163,7 @@ fn leave_state(
     cells: &[u16],
     d: Sizes,
     table: &[u16],
+    bound: u16,
     from: &[u16; 4096],
     on: &[u8; 128],
     q: usize,
@@ -167,11 +171,11 @@ fn leave_state(
     flags: &mut [u8; 128],
 )
     requires { ⌜ Holds d (now cells) ⌝ }
-    requires { ⌜ (q < d .s) × (room d ≤ length (now table)) ⌝ }
+    requires { ⌜ (q < d .s) × (room d ≤ length (now table)) × (bound ≤ long) ⌝ }
     requires { ⌜ Quiet (tablesOf (now cells)) (claimIn d (now table)) ⌝ }
     requires { ⌜ Sized (now values) (now flags) ⌝ }
     ensures { λ _. ⌜ Sized (now (values .exit)) (now (flags .exit)) ⌝ }
-    ensures { λ _. ⌜ Step (LeavesState d (tablesOf (now (cells .entry))) (claimIn d (now (table .entry))) (valueIn (now (from .entry)) (now (on .entry))) q) (valueIn (now (values .entry)) (now (flags .entry))) (valueIn (now (values .exit)) (now (flags .exit))) ⌝ }
+    ensures { λ _. ⌜ Step (LeavesState d (tablesOf (now (cells .entry))) (claimIn d (now (table .entry))) (cutAt bound (valueIn (now (from .entry)) (now (on .entry)))) q) (valueIn (now (values .entry)) (now (flags .entry))) (valueIn (now (values .exit)) (now (flags .exit))) ⌝ }
 {
     if on[q] == 0 {
         return;
@@ -180,12 +184,39 @@ fn leave_state(
     let row = q * 32;
     let mut a: usize = 0;
     while a < t {
-        leave(cells, d, table, q, a, from[row + a], values, flags);
+        leave(cells, d, table, bound, q, a, from[row + a], values, flags);
         a += 1;
     }
 }
 
-// The layer after one transition more.
+// The layer after one transition more, where costs above the bound are left out.
+pub fn lengthen_within(
+    cells: &[u16],
+    d: Sizes,
+    table: &[u16],
+    bound: u16,
+    from: &[u16; 4096],
+    on: &[u8; 128],
+    values: &mut [u16; 4096],
+    flags: &mut [u8; 128],
+)
+    requires { ⌜ Holds d (now cells) ⌝ }
+    requires { ⌜ (room d ≤ length (now table)) × (bound ≤ long) ⌝ }
+    requires { ⌜ Quiet (tablesOf (now cells)) (claimIn d (now table)) ⌝ }
+    requires { ⌜ length (now values) ≡ 4096 ⌝ }
+    ensures { λ _. ⌜ Sized (now (values .exit)) (now (flags .exit)) ⌝ }
+    ensures { λ _. ⌜ Lengthened (tablesOf (now (cells .entry))) (claimIn d (now (table .entry))) (cutAt bound (valueIn (now (from .entry)) (now (on .entry)))) (valueIn (now (values .exit)) (now (flags .exit))) ⌝ }
+{
+    *flags = [0; 128];
+    let s = d.s;
+    let mut q: usize = 0;
+    while q < s {
+        leave_state(cells, d, table, bound, from, on, q, values, flags);
+        q += 1;
+    }
+}
+
+// The whole layer after one transition more.
 pub fn lengthen(
     cells: &[u16],
     d: Sizes,
@@ -202,11 +233,5 @@ pub fn lengthen(
     ensures { λ _. ⌜ Sized (now (values .exit)) (now (flags .exit)) ⌝ }
     ensures { λ _. ⌜ Lengthened (tablesOf (now (cells .entry))) (claimIn d (now (table .entry))) (valueIn (now (from .entry)) (now (on .entry))) (valueIn (now (values .exit)) (now (flags .exit))) ⌝ }
 {
-    *flags = [0; 128];
-    let s = d.s;
-    let mut q: usize = 0;
-    while q < s {
-        leave_state(cells, d, table, from, on, q, values, flags);
-        q += 1;
-    }
+    lengthen_within(cells, d, table, LONG, from, on, values, flags);
 }

@@ -15,7 +15,7 @@ use Rattle.machine.specs.Machine.{Steps, done, then}
 use Rattle.machine.specs.MachineLaws.{step-reduce, _⊕_}
 use Rattle.walk.specs.Walk.{Walk}
 use Rattle.walk.specs.WalkLaws.{walk-starts, walk-runs}
-use Rattle.walk.specs.Cost.{unreached, cap, cost, plus, Attained}
+use Rattle.walk.specs.Cost.{limit, unreached, cap, cost, plus, Attained}
 use Rattle.walk.specs.CostLaws.{plus-mono, plus-assoc, plus-bounded, plus-near, plus-far-left, plus-far-right, plus-zero, zero-plus, attained-plus}
 use Rattle.walk.specs.Claims.{Claims, ClaimedGets, arriving, popping, Least, Onward, Witnessed}
 use Rattle.walk.specs.ClaimsLaws.{claimed-next, claimed-terminal, claimed-bounded, witnessed-above}
@@ -36,11 +36,11 @@ zero-plus-le x = go (decLt x unreached)
     go (yes l) = omega (arith, plus-near 0 x (omega arith) l)
     go (no n) = omega (arith, plus-far-right 0 x (omega arith))
 
--- a sum of 0 is of a first part 0
-pub plus-none : (x y : ℕ) → plus x y ≤ 0 → x ≡ 0
-plus-none x y h = go (decLt x unreached) (decLt y unreached)
+-- a sum within the limit is not capped
+pub sum-within : (x y r : ℕ) → r ≤ limit → plus x y ≤ r → x + y ≤ r
+sum-within x y r g h = go (decLt x unreached) (decLt y unreached)
   where
-    go : Dec (x < unreached) → Dec (y < unreached) → x ≡ 0
+    go : Dec (x < unreached) → Dec (y < unreached) → x + y ≤ r
     go (yes l) (yes m) = omega (arith, plus-near x y l m)
     go (yes l) (no m) = omega (arith, plus-far-right x y (omega arith))
     go (no l) m = omega (arith, plus-far-left x y (omega arith))

@@ -16,19 +16,19 @@ use Rattle.book.specs.declared.Action.the-variants.{Error, Accept, Shift, Reduc
 use Rattle.book.specs.declared.Sizes.{Sizes}
 use Rattle.machine.specs.MachineLaws.{clash}
 use Rattle.walk.specs.WalkLaws.{Opens, shifts}
-use Rattle.walk.specs.Cost.{unreached, plus}
+use Rattle.walk.specs.Cost.{limit, unreached, plus}
 use Rattle.walk.specs.CostLaws.{plus-mono, plus-far-left, plus-far-right}
 use Rattle.walk.specs.Claims.{Claims, Claimed, Least}
 use Rattle.walk.specs.ClaimsLaws.{claimed-next, claimed-terminal, Start, nowhere, shift-first, goto-first, claimed-start}
-use Rattle.walk.specs.Layers.{Layer}
-use Rattle.walk.specs.LayersLaws.{layer-here, layer-elsewhere, layer-longer}
+use Rattle.walk.specs.Layers.{Layer, LayerWithin, cutAt}
+use Rattle.walk.specs.LayersLaws.{layer-here, layer-elsewhere, within-longer, within-cut}
 use Rattle.layers.specs.ActionLaws.{reduce-below}
 use Rattle.layers.specs.Layer.{entryIn, Begun, Lengthened}
 use Rattle.layers.specs.Crossing.{Quiet}
 use Rattle.layers.specs.CrossingLaws.{terminals-are}
 use Rattle.layers.specs.Step.{Step, Upto}
 use Rattle.layers.specs.StepLaws.{step-none, step-as}
-use Rattle.search.specs.CompletesLaws.{near-right}
+use Rattle.search.specs.CompletesLaws.{near-right, sum-within}
 use Rattle.search.specs.Waiting.{Narrow, rowOf, Expands, Lowered, Popped, Reduces, ReducesState, ReducesLayer, ExpandsAfter, Longest, Enough}
 
 -- the tables of a book are narrow
@@ -56,33 +56,10 @@ module _ {d : Sizes} {cells : List ℕ} (h : Holds d cells) where
   unfolding tablesOf
   left-below p l = omega (arith, left-side-below h p l, h .small .nonterminals)
 
--- the least of x, which stood at (row, c), and w is stored there
-pub step-lowered : (l : List ℕ) (row c w x y r : ℕ) → c < 32 → row * 32 + c < length l → r ≡ min x y → x ≡ getD l (row * 32 + c) 0 → y ≡ w
-    → Step (Lowered row c w) (entryIn l) (entryIn (set l (row * 32 + c) r))
-unfolding entryIn
-step-lowered l row c w x y r hc size m ex ey = record {
-  fall = λ q z h. fall q z (ℕ-discrete (q * 32 + z) (row * 32 + c));
-  below = λ q z w′ (eq, ez, ew) h u. rw (eq, ez, ew) (omega (arith, there));
-  attained = λ q z h. attained q z h (ℕ-discrete (q * 32 + z) (row * 32 + c)) (decLt (getD l (row * 32 + c) 0) w);
-}
-  where
-    there : getD (set l (row * 32 + c) r) (row * 32 + c) 0 ≡ r
-    there = getD-set-same l (row * 32 + c) r 0 size
-
-    fall : (q z : ℕ) → Dec (q * 32 + z ≡ row * 32 + c) → getD (set l (row * 32 + c) r) (q * 32 + z) 0 ≤ getD l (q * 32 + z) 0
-    fall q z (yes e) = rw e (omega (arith, there))
-    fall q z (no n) = rw (getD-set-other l (row * 32 + c) (q * 32 + z) r 0 n) (le-refl _)
-
-    attained : (q z : ℕ) → z < 32 → Dec (q * 32 + z ≡ row * 32 + c) → Dec (getD l (row * 32 + c) 0 < w)
-        → (getD (set l (row * 32 + c) r) (q * 32 + z) 0 ≡ getD l (q * 32 + z) 0) ⊎ ((q ≡ row) × (z ≡ c) × (getD (set l (row * 32 + c) r) (q * 32 + z) 0 ≡ w))
-    attained q z h (yes e) (yes s) = inl (rw e (omega (arith, there)))
-    attained q z h (yes e) (no n) = inr (omega arith, omega arith, rw e (omega (arith, there)))
-    attained q z h (no n) d = inl (getD-set-other l (row * 32 + c) (q * 32 + z) r 0 n)
-
 -- candidates that are below others, and some of them: the same table
-step-least : {P Q : ℕ → ℕ → ℕ → Type 0} {K L : ℕ → ℕ → ℕ} → ((q z w : ℕ) → P q z w → w < unreached → Q q z w)
+step-cheaper : {P Q : ℕ → ℕ → ℕ → Type 0} {K L : ℕ → ℕ → ℕ} → ((q z w : ℕ) → P q z w → w < unreached → Q q z w)
     → ((q z w : ℕ) → Q q z w → z < 32 → w < unreached → (w′ : ℕ) × P q z w′ × (w′ ≤ w)) → ((q z w : ℕ) → P q z w → w < unreached) → Step P K L → Step Q K L
-step-least f g near s = record {
+step-cheaper f g near s = record {
   fall = s .fall;
   below = λ q z w x h u. let (w′, p, l) = g q z w x h u in le-trans (s .below q z w′ p h (omega arith)) l;
   attained = λ q z h. ⊎-elim inl (λ p. inr (f q z _ p (near q z _ p))) (s .attained q z h);
@@ -118,9 +95,9 @@ pub step-off : (s : Sizes) (B : Tables) (d m r v : ℕ) (L : ℕ → ℕ → ℕ
 step-off s B d m r v L q hr off = step-none (λ row c w (b, hb, x) h u. omega (arith, x .0, plus-far-right v (L q b) (omega (arith, off b))))
 
 -- the reductions in the layer of m transitions are what is popped after m transitions
-module _ {s : Sizes} {cells : List ℕ} (h : Holds s cells) {claim : Claims} (d g a v r m : ℕ) (L : ℕ → ℕ → ℕ) (hr : r < unreached) (layer : Layer (tablesOf cells) claim g a m L) where
+module _ {s : Sizes} {cells : List ℕ} (h : Holds s cells) {claim : Claims} (d g a v r m : ℕ) (L : ℕ → ℕ → ℕ) (hr : r ≤ limit) (layer : LayerWithin (tablesOf cells) claim (r - v) g a m L) where
   pub step-layer : {K M : ℕ → ℕ → ℕ} → Step (ReducesLayer s (tablesOf cells) d m r v L) K M → Step (ExpandsAfter (tablesOf cells) claim d g a v r m) K M
-  step-layer = step-least (λ row c w x u. known row c w x u) (λ row c w x k u. lower row c w x u) (λ row c w (q, hq, (b, hb, (l, (p, e, (f, i, j, k))))). omega arith)
+  step-layer = step-cheaper (λ row c w x u. known row c w x u) (λ row c w x k u. lower row c w x u) (λ row c w (q, hq, (b, hb, (l, (p, e, (f, i, j, k))))). omega arith)
     where
       known : (row c w : ℕ) → ReducesLayer s (tablesOf cells) d m r v L row c w → w < unreached → ExpandsAfter (tablesOf cells) claim d g a v r m row c w
       known row c w (q, hq, (b, hb, (l, (p, e, (f, i, j, k))))) u =
@@ -139,24 +116,24 @@ module _ {s : Sizes} {cells : List ℕ} (h : Holds s cells) {claim : Claims} (d 
       lower row c w (k, X, e, (p, i), l) u =
           let (hq, hc, ok) = act-some h (p .last) c (Reduce (p .production)) (p .action) (λ z. clash cc) in
           let walk : Claimed (tablesOf cells) claim g a (p .taken) c m (p .last) = rw i at (p .walk) in
-          let less : plus v (L (p .last) c) ≤ w = rw (p .sum) (plus-mono (le-refl v) (layer (p .last) c (claimed-next walk) .below (p .taken) walk)) in
+          let less : plus v (L (p .last) c) ≤ w = rw (p .sum) (plus-mono (le-refl v) (layer (p .last) c (claimed-next walk) .below (p .taken) walk (omega (arith, sum-within v (p .taken) r hr (omega (arith, p .sum)))))) in
           let here : row ≡ rowOf (d + (tablesOf cells .len (p .production) - m - 1)) (tablesOf cells .lhs (p .production)) = omega (arith, p .longer, p .left) in
           (plus v (L (p .last) c), (p .last, hq, (c, hc, (omega arith, (p .production, p .action, (omega (arith, p .longer), here, refl, refl))))), less)
 
 module _ (B : Tables) (claim : Claims) (d g a v r : ℕ) {most : ℕ} {K L : ℕ → ℕ → ℕ} where
   -- every layer that matters was looked at
-  pub step-expanded : r < unreached → Enough B claim g a most → Step (Upto (ExpandsAfter B claim d g a v r) most) K L → Step (Expands B claim d g a v r) K L
+  pub step-expanded : r < unreached → Enough B claim g a most → Step (Upto (ExpandsAfter B claim d g a v r) (most + 1)) K L → Step (Expands B claim d g a v r) K L
   step-expanded hr enough s = step-as
       (λ row c w (m, hm, (k, X, e, (p, i), l)). (k, X, e, p, l))
-      (λ row c w (k, X, e, p, l). (p .count, enough .bound (p .walk) (near-right v (p .taken) (omega (arith, p .sum))) (p .action) (omega (arith, p .longer)), (k, X, e, (p, refl), l)))
+      (λ row c w (k, X, e, p, l). (p .count, omega (arith, enough .bound (p .walk) (near-right v (p .taken) (omega (arith, p .sum))) (p .action) (omega (arith, p .longer))), (k, X, e, (p, refl), l)))
       s
 
 -- which layers matter
 module _ {B : Tables} {claim : Claims} {g a : ℕ} where
-  pub enough-most : {most : ℕ} → Longest B most → Enough B claim g a most
-  enough-most {most} long = record { bound = λ w u e l. below w e l }
+  pub enough-most : {most n : ℕ} → Longest B most → most ≤ n + 1 → Enough B claim g a n
+  enough-most {most} {n} long h = record { bound = λ w u e l. below w e l }
     where
-      below : {x c m q p : ℕ} → Claimed B claim g a x c m q → B .act q c ≡ Reduce p → m < B .len p → m < most
+      below : {x c m q p : ℕ} → Claimed B claim g a x c m q → B .act q c ≡ Reduce p → m < B .len p → m ≤ n
       below {c} {q} {p} w e l = omega (arith, long .bound q c p e)
 
   unopened-none : {x c m q : ℕ} → Quiet B claim → ¬ Opens B g a → a < B .terminals → Start B claim g a x c m q → x < unreached → m ≡ 0
@@ -165,8 +142,8 @@ module _ {B : Tables} {claim : Claims} {g a : ℕ} where
   unopened-none k o h (goto-first {b} {v} X e w) u = absurd (omega (arith, plus-far-left (claim g X a b) v (omega (arith, k .unopened {z = b} o h (claimed-terminal w) e))))
 
   -- where no walk begins, only the first
-  pub enough-one : Quiet B claim → ¬ Opens B g a → Enough B claim g a 1
-  enough-one k o = record { bound = λ w u e l. let z = unopened-none k o (claimed-terminal w) (claimed-start w) u in omega arith }
+  pub enough-none : Quiet B claim → ¬ Opens B g a → Enough B claim g a 0
+  enough-none k o = record { bound = λ w u e l. let z = unopened-none k o (claimed-terminal w) (claimed-start w) u in omega arith }
 
 -- rows go by the depth's remainder
 pub step-depth : (B : Tables) (claim : Claims) (g a v r d at : ℕ) {K L : ℕ → ℕ → ℕ} → at ≡ d % 32 → Step (Expands B claim at g a v r) K L → Step (Expands B claim d g a v r) K L
@@ -182,5 +159,5 @@ module _ {B : Tables} {claim : Claims} where
       go (yes e) (no f) = rw (b .elsewhere q′ z (omega arith) (λ i j. f j)) (layer-elsewhere (λ i j. f j))
       go (no e) f = rw (b .elsewhere q′ z (omega arith) (λ i j. e i)) (layer-elsewhere (λ i j. e i))
 
-  pub layer-next : {q a m : ℕ} {L L′ : ℕ → ℕ → ℕ} → Layer B claim q a m L → Lengthened B claim L L′ → Layer B claim q a (m + 1) L′
-  layer-next {q} {a} {m} {L} {L′} l n q′ z hz = rw add-one (layer-longer l (n q′ z hz))
+  pub layer-next : {q a m bound : ℕ} {L L′ : ℕ → ℕ → ℕ} → LayerWithin B claim bound q a m L → Lengthened B claim (cutAt bound L) L′ → LayerWithin B claim bound q a (m + 1) L′
+  layer-next {q} {a} {m} l n q′ z hz = rw add-one (within-longer (within-cut l) (n q′ z hz))

@@ -12,7 +12,7 @@ use Rattle.walk.specs.Cost.{unreached, plus}
 use Rattle.walk.specs.Claims.{Claims, Witnessed}
 use Rattle.layers.specs.Step.{Step}
 use Rattle.search.specs.Completes.{Completes, Stands, top}
-use Rattle.search.specs.CompletesLaws.{completes-stands-iff, stands-still, plus-none}
+use Rattle.search.specs.CompletesLaws.{completes-stands-iff, stands-still, sum-within}
 use Rattle.search.specs.Waiting.{Narrow, Expands}
 use Rattle.search.specs.WaitingLaws.{progress-start, progress-done}
 use Rattle.search.specs.Settle.{Here, Settled}
@@ -74,7 +74,7 @@ module _ {B : Tables} {claim : Claims} {G : ℕ → ℕ → ℕ} {x r : ℕ} whe
 pub reached-still : {B : Tables} {claim : Claims} {G : ℕ → ℕ → ℕ} {x k g : ℕ} {s : List ℕ} → Witnessed B claim → Reached B claim G s x 0 k g
     → (plus 0 (G g x) ≤ 0) × ((u : List ℕ) → Steps B (reverse s) (x ∷ u) (g ∷ reverse (take k s)) (x ∷ u))
 reached-still {B} {claim} {G} {x} {k} {g} {s} w a =
-    let zero : a .cost ≡ 0 = plus-none (a .cost) (G g (a .first)) (a .within) in
+    let zero : a .cost ≡ 0 = omega (arith, sum-within (a .cost) (G g (a .first)) 0 (omega arith) (a .within)) in
     let stands : Stands B claim (topOf s) (belowOf s) x (a .index) g (a .first) 0 = rw zero at (a .stands) in
     let (same, run) = stands-still w stands in
     (rw (zero, same) at (a .within), λ u. rw (stack-split s (a .some), ← below-drop s (a .some) k (a .index - 1) (a .kept)) (run u))

@@ -88,6 +88,6 @@ ExpandsAfter B claim d g b u r m row c w = (k X : ℕ) × (row ≡ rowOf (d + k)
 pub record Longest (B : Tables) (most : ℕ) : Type 0 where
   pub bound : (q a p : ℕ) → B .act q a ≡ Reduce p → B .len p ≤ most
 
--- from g under a no walk of n transitions or more, at a cost that counts, ends in a reduction that pops more
+-- from g under a no walk of more than n transitions, at a cost that counts, ends in a reduction that pops more
 pub record Enough (B : Tables) (claim : Claims) (g a n : ℕ) : Type 0 where
-  pub bound : {x c m q p : ℕ} → Claimed B claim g a x c m q → x < unreached → B .act q c ≡ Reduce p → m < B .len p → m < n
+  pub bound : {x c m q p : ℕ} → Claimed B claim g a x c m q → x < unreached → B .act q c ≡ Reduce p → m < B .len p → m ≤ n

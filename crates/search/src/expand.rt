@@ -1,6 +1,6 @@
 // From one state: every reduction that pops more than was pushed since, into the table of waiting gotos.
 ghost use mathlib.Core.Path.{_≡_};
-ghost use Prim.Native.Nat.{_+_, _*_, _≤_, _<_, max};
+ghost use Prim.Native.Nat.{_+_, _-_, _*_, _≤_, _<_, max};
 ghost use lib.ListN.{length};
 ghost use Rattle.book.specs.Tables.{tablesOf};
 ghost use Rattle.book.specs.TablesLaws.{Holds};
@@ -17,7 +17,7 @@ use book::action_at;
 use book::left_side;
 use book::production_length;
 use layers::begin;
-use layers::lengthen;
+use layers::lengthen_within;
 use layers::opens;
 use walk::UNREACHED;
 use walk::add;
@@ -195,18 +195,28 @@ fn pop_layer(
     }
 }
 
-// How many layers from (g, a) matter: where no walk begins, only the first.
-fn layer_count(cells: &[u16], d: Sizes, most: usize, g: usize, a: usize) -> usize
+// The last layer from (g, a) that matters: where no walk begins, the first.
+fn last_layer(cells: &[u16], d: Sizes, most: usize, g: usize, a: usize) -> usize
     requires { ⌜ Holds d (now cells) ⌝ }
     requires { ⌜ (g < d .s) × (a < d .t) ⌝ }
     requires { ⌜ Longest (tablesOf (now cells)) most ⌝ }
-    ensures { λ n. ⌜ n ≤ max most 1 ⌝ }
+    ensures { λ n. ⌜ n ≤ most ⌝ }
     ensures { λ n. ⌜ ((claim : Claims) → Quiet (tablesOf (now (cells .entry))) claim → Enough (tablesOf (now (cells .entry))) claim g a n) ⌝ }
 {
-    if opens(cells, d, g, a) {
-        return most;
+    if most == 0 {
+        return 0;
     }
-    1
+    if opens(cells, d, g, a) {
+        return most - 1;
+    }
+    0
+}
+
+// What is left of r after v.
+fn rest(r: u16, v: u16) -> u16
+    ensures { λ n. ⌜ n ≡ r - v ⌝ }
+{
+    if v < r { r - v } else { 0 }
 }
 
 // State g on top under a, at the cost v: all that it pops within r, where the rows of `at` are those of the state below it.
@@ -232,18 +242,29 @@ pub fn expand(
     ensures { λ _. ⌜ (length (now (events .exit)) ≡ 32768) × (length (now (flags .exit)) ≡ 32) ⌝ }
     ensures { λ _. ⌜ Step (Expands (tablesOf (now (cells .entry))) (claimIn d (now (table .entry))) at g a v r) (eventIn (now (events .entry)) (now (flags .entry))) (eventIn (now (events .exit)) (now (flags .exit))) ⌝ }
 {
-    let count = layer_count(cells, d, most, g, a);
+    let last = last_layer(cells, d, most, g, a);
+    let bound = rest(r, v);
     let mut values = [UNREACHED; 4096];
     let mut on = [0u8; 128];
     let mut next = [UNREACHED; 4096];
     let mut next_on = [0u8; 128];
     begin(&mut values, &mut on, g, a);
     let mut m: usize = 0;
-    while m < count {
+    while m < last {
         pop_layer(cells, d, at, m, r, v, &values, &on, events, flags);
-        lengthen(cells, d, table, &values, &on, &mut next, &mut next_on);
+        lengthen_within(
+            cells,
+            d,
+            table,
+            bound,
+            &values,
+            &on,
+            &mut next,
+            &mut next_on,
+        );
         values = next;
         on = next_on;
         m += 1;
     }
+    pop_layer(cells, d, at, m, r, v, &values, &on, events, flags);
 }

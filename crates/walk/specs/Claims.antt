@@ -53,6 +53,11 @@ pub record Least (P : ℕ → Type 0) (v : ℕ) : Type 0 where
   pub below : (x : ℕ) → P x → v ≤ x
   pub attained : (v ≡ unreached) ⊎ P v
 
+-- v is that as far as a bound: no cost in P up to the bound is less
+pub record LeastWithin (bound : ℕ) (P : ℕ → Type 0) (v : ℕ) : Type 0 where
+  pub below : (x : ℕ) → P x → x ≤ bound → v ≤ x
+  pub attained : (v ≡ unreached) ⊎ P v
+
 -- a claimed walk from the start to state s with z next, of any number of transitions
 abbrev pub Arrival : Tables → Claims → ℕ → ℕ → ℕ → Type 0
 Arrival B claim s z v = (a n : ℕ) × Claimed B claim 0 a v z n s

@@ -4,7 +4,7 @@ use mathlib.Core.List.{List}
 use mathlib.Core.Logic.{_⊎_}
 use mathlib.Core.Path.{_≡_}
 use Prim.Native.Nat.{ℕ, _+_, _≤_, min}
-use lib.Dec.{ltb}
+use lib.Dec.{ltb, leb}
 use lib.ListN.{length}
 
 -- 'the least length': what a word costs is how many symbols it has
@@ -29,6 +29,10 @@ cap n = min n long
 -- the sum of two of these; unreached and anything is unreached
 unfoldable pub plus : ℕ → ℕ → ℕ
 plus x y = cond (ltb x unreached) (cond (ltb y unreached) (min (x + y) long) unreached) unreached
+
+-- a cost above a bound counts as unreached
+unfoldable pub cut : ℕ → ℕ → ℕ
+cut bound v = cond (leb v bound) v unreached
 
 -- v is the cost of a word in P, or unreached
 abbrev pub Attained : (List ℕ → Type 0) → ℕ → Type 0

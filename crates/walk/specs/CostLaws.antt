@@ -6,9 +6,9 @@ use Prim.Native.Nat.{ℕ, _+_, _≤_, _<_, max}
 use native.Mathlib.Nat.{le-antisymm}
 use native.Mathlib.Decide.{decLt}
 use native.Mathlib.Omega.{arith}
-use borrow.Author.Tests.{lt-ltb, le-ltb}
+use borrow.Author.Tests.{lt-ltb, le-ltb, le-leb, lt-leb}
 use lib.ListN.{length-append}
-use Rattle.walk.specs.Cost.{cost, unreached, cap, plus, Attained, Exact}
+use Rattle.walk.specs.Cost.{cost, long, unreached, cap, plus, cut, Attained, Exact}
 
 pub plus-far-left : (x y : ℕ) → unreached ≤ x → plus x y ≡ unreached
 unfolding plus
@@ -132,3 +132,35 @@ module _ {P : List ℕ → Type 0} where
 -- the same words have the same least cost
 pub exact-map : {P Q : List ℕ → Type 0} {v : ℕ} → ((w : List ℕ) → P w ↔ Q w) → Exact P v → Exact Q v
 exact-map f e = record { least = λ w q. e .least w (f w .1 q); attained = attained-map (λ w p. f w .0 p) (e .attained) }
+
+-- a sum is no less than its first part
+pub plus-left-le : (x y : ℕ) → x ≤ unreached → x ≤ plus x y
+plus-left-le x y h = go (sum x y)
+  where
+    go : Sum x y (plus x y) → x ≤ plus x y
+    go (near a b e) = omega arith
+    go (far a e) = omega arith
+
+-- costs that are cut at a bound
+pub cut-within : (bound v : ℕ) → v ≤ bound → cut bound v ≡ v
+unfolding cut
+cut-within bound v h = simp (le-leb v bound h)
+
+pub cut-beyond : (bound v : ℕ) → bound < v → cut bound v ≡ unreached
+unfolding cut
+cut-beyond bound v h = simp (lt-leb v bound h)
+
+pub cut-unreached : (bound : ℕ) → cut bound unreached ≡ unreached
+cut-unreached bound = go (decLt bound unreached)
+  where
+    go : Dec (bound < unreached) → cut bound unreached ≡ unreached
+    go (yes h) = cut-beyond bound unreached h
+    go (no h) = cut-within bound unreached (omega arith)
+
+-- a cut at long changes no sum
+pub plus-cut : (x y : ℕ) → plus (cut long x) y ≡ plus x y
+plus-cut x y = go (decLt long x)
+  where
+    go : Dec (long < x) → plus (cut long x) y ≡ plus x y
+    go (yes h) = rw (cut-beyond long x h, plus-far-left x y (omega arith)) (plus-far-left unreached y (omega arith))
+    go (no h) = rw (cut-within long x (omega arith)) refl

@@ -4,8 +4,8 @@ use mathlib.Core.Path.{_≡_}
 use Prim.Native.Nat.{ℕ, suc, _≤_, _<_}
 use Rattle.book.specs.Tables.{Tables}
 use Rattle.book.specs.declared.Action.the-variants.{Shift}
-use Rattle.walk.specs.Cost.{unreached, plus}
-use Rattle.walk.specs.Claims.{Claims, Claimed, Least, Arrival, Onward}
+use Rattle.walk.specs.Cost.{unreached, plus, cut}
+use Rattle.walk.specs.Claims.{Claims, Claimed, Least, LeastWithin, Arrival, Onward}
 
 -- L has a cost for each state and next terminal; Longer B claim L q z v: from there one transition more leads to (q, z), at the cost v
 pub data Longer (B : Tables) (claim : Claims) (L : ℕ → ℕ → ℕ) : ℕ → ℕ → ℕ → Type 0 where
@@ -21,6 +21,14 @@ pub data Sooner (B : Tables) (claim : Claims) (G : ℕ → ℕ → ℕ) (q a : �
 -- L is the layer of n transitions from (q, a): the least cost to stand at each state and next terminal
 abbrev pub Layer : Tables → Claims → ℕ → ℕ → ℕ → (ℕ → ℕ → ℕ) → Type 0
 Layer B claim q a n L = (q′ z : ℕ) → z < B .terminals → Least (λ v. Claimed B claim q a v z n q′) (L q′ z)
+
+-- .. as far as a bound
+abbrev pub LayerWithin : Tables → Claims → ℕ → ℕ → ℕ → ℕ → (ℕ → ℕ → ℕ) → Type 0
+LayerWithin B claim bound q a n L = (q′ z : ℕ) → z < B .terminals → LeastWithin bound (λ v. Claimed B claim q a v z n q′) (L q′ z)
+
+-- a table of costs, each cut at the bound
+abbrev pub cutAt : ℕ → (ℕ → ℕ → ℕ) → ℕ → ℕ → ℕ
+cutAt bound L q z = cut bound (L q z)
 
 -- what passes over a table of distances from the start end with
 pub record FromStart (B : Tables) (claim : Claims) (D : ℕ → ℕ → ℕ) : Type 0 where

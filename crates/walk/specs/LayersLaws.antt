@@ -1,16 +1,17 @@
 -- Laws of layers and distances: what a table has to satisfy, one transition at a time, to hold the least claimed costs. Assumes nothing.
 use mathlib.Core.Logic.{_⊎_, inl, inr, ⊎-elim}
-use mathlib.Core.Path.{_≡_, refl}
+use mathlib.Core.Path.{_≡_, refl, sym, subst}
 use Prim.Native.Nat.{ℕ, zero, suc, _≤_, _<_}
 use native.Mathlib.Nat.{le-trans, le-refl}
+use native.Mathlib.Decide.{decLt}
 use native.Mathlib.Omega.{arith}
 use Rattle.book.specs.Tables.{Tables}
 use Rattle.walk.specs.Walk.{Walk}
-use Rattle.walk.specs.Cost.{unreached, Attained}
-use Rattle.walk.specs.CostLaws.{plus-mono, plus-far-left, plus-far-right}
-use Rattle.walk.specs.Claims.{Claims, Claimed, none, shifting, crossing, Witnessed, Least, Arrival, Onward}
-use Rattle.walk.specs.ClaimsLaws.{attained-shift, attained-cross, claimed-next, claimed-terminal, claimed-shift, claimed-goto, Start, nowhere, shift-first, goto-first, claimed-start}
-use Rattle.walk.specs.Layers.{Longer, add-shift, add-goto, Sooner, from-shift, from-goto, Layer, FromStart, ToGoal}
+use Rattle.walk.specs.Cost.{long, unreached, plus, cut, Attained}
+use Rattle.walk.specs.CostLaws.{plus-mono, plus-far-left, plus-far-right, plus-left-le, cut-within, cut-beyond, plus-cut}
+use Rattle.walk.specs.Claims.{Claims, Claimed, none, shifting, crossing, Witnessed, Least, LeastWithin, Arrival, Onward}
+use Rattle.walk.specs.ClaimsLaws.{attained-shift, attained-cross, claimed-next, claimed-bounded, claimed-terminal, claimed-shift, claimed-goto, Start, nowhere, shift-first, goto-first, claimed-start}
+use Rattle.walk.specs.Layers.{Longer, add-shift, add-goto, Sooner, from-shift, from-goto, Layer, LayerWithin, cutAt, FromStart, ToGoal}
 
 module _ {B : Tables} {claim : Claims} where
   -- the layer of no transitions
@@ -23,17 +24,49 @@ module _ {B : Tables} {claim : Claims} where
       away : {q a v q′ z : ℕ} → (q ≡ q′ → a ≡ z → ⊥) → ¬ Claimed B claim q a v z 0 q′
       away f (none h) = f refl refl
 
-  -- one more transition
-  pub layer-longer : {q a n q′ z d : ℕ} {L : ℕ → ℕ → ℕ} → Layer B claim q a n L → Least (Longer B claim L q′ z) d → Least (λ v. Claimed B claim q a v z (suc n) q′) d
-  layer-longer {q} {a} {n} {q′} {z} {d} {L} l m = record { below = λ x c. low c m; attained = ⊎-elim inl (λ x. up x) (m .attained) }
+  -- one more transition, as far as a bound ..
+  pub within-longer : {q a n q′ z d bound : ℕ} {L : ℕ → ℕ → ℕ} → LayerWithin B claim bound q a n L → Least (Longer B claim L q′ z) d
+      → LeastWithin bound (λ v. Claimed B claim q a v z (suc n) q′) d
+  within-longer {q} {a} {n} {q′} {z} {d} {bound} {L} l m = record { below = λ x c h. low c h m; attained = ⊎-elim inl (λ x. up x) (m .attained) }
     where
-      low : {x d q′ z : ℕ} → Claimed B claim q a x z (suc n) q′ → Least (Longer B claim L q′ z) d → d ≤ x
-      low (shifting {t} {q₁} z c e h) m = le-trans (m .below _ (add-shift z (claimed-next c) e h)) (plus-mono (l q₁ t (claimed-next c) .below _ c) (le-refl 1))
-      low (crossing {b} {q₁} X z c g h) m = le-trans (m .below _ (add-goto X b z (claimed-next c) g h)) (plus-mono (l q₁ b (claimed-next c) .below _ c) (le-refl _))
+      -- a walk costs no less than its part before the last transition
+      nearer : {v b q₁ : ℕ} (w : ℕ) → Claimed B claim q a v b n q₁ → plus v w ≤ bound → L q₁ b ≤ v
+      nearer {v} {b} {q₁} w c h = l q₁ b (claimed-next c) .below v c (le-trans (plus-left-le v w (claimed-bounded c)) h)
+
+      low : {x d q′ z : ℕ} → Claimed B claim q a x z (suc n) q′ → x ≤ bound → Least (Longer B claim L q′ z) d → d ≤ x
+      low (shifting z c e h) k m = le-trans (m .below _ (add-shift z (claimed-next c) e h)) (plus-mono (nearer 1 c k) (le-refl 1))
+      low (crossing {b} {q₁} X z c g h) k m = le-trans (m .below _ (add-goto X b z (claimed-next c) g h)) (plus-mono (nearer (claim q₁ X b z) c k) (le-refl _))
 
       up : {v q′ z : ℕ} → Longer B claim L q′ z v → (v ≡ unreached) ⊎ Claimed B claim q a v z (suc n) q′
       up (add-shift {q₁} {t} z k e h) = ⊎-elim (λ i. inl (plus-far-left _ _ (omega arith))) (λ c. inr (shifting z c e h)) (l q₁ t k .attained)
       up (add-goto {q₁} X b z k g h) = ⊎-elim (λ i. inl (plus-far-left _ _ (omega arith))) (λ c. inr (crossing X z c g h)) (l q₁ b k .attained)
+
+  -- .. where costs above the bound may be left out
+  pub within-cut : {q a n bound : ℕ} {L : ℕ → ℕ → ℕ} → LayerWithin B claim bound q a n L → LayerWithin B claim bound q a n (cutAt bound L)
+  within-cut {q} {a} {n} {bound} {L} l q′ z h = go (decLt bound (L q′ z))
+    where
+      go : Dec (bound < L q′ z) → LeastWithin bound (λ v. Claimed B claim q a v z n q′) (cut bound (L q′ z))
+      go (yes k) = rw (cut-beyond bound (L q′ z) k) (record { below = λ x c i. absurd (omega (arith, l q′ z h .below x c i)); attained = inl refl })
+      go (no k) = rw (cut-within bound (L q′ z) (omega arith)) (l q′ z h)
+
+  -- and without a bound
+  pub layer-within : {q a n : ℕ} {L : ℕ → ℕ → ℕ} (bound : ℕ) → Layer B claim q a n L → LayerWithin B claim bound q a n L
+  layer-within bound l q′ z h = record { below = λ x c i. l q′ z h .below x c; attained = l q′ z h .attained }
+
+  pub layer-longer : {q a n q′ z d : ℕ} {L : ℕ → ℕ → ℕ} → Layer B claim q a n L → Least (Longer B claim L q′ z) d → Least (λ v. Claimed B claim q a v z (suc n) q′) d
+  layer-longer l m = let w = within-longer (layer-within unreached l) m in record { below = λ x c. w .below x c (claimed-bounded c); attained = w .attained }
+
+  -- a cut at long leaves out nothing
+  pub longer-whole : {L : ℕ → ℕ → ℕ} {q z v : ℕ} → Least (Longer B claim (cutAt long L) q z) v → Least (Longer B claim L q z) v
+  longer-whole {L} m = record { below = λ x l. m .below x (into l); attained = ⊎-elim inl (λ l. inr (out l)) (m .attained) }
+    where
+      into : {q z x : ℕ} → Longer B claim L q z x → Longer B claim (cutAt long L) q z x
+      into (add-shift {q₁} {t} z k e h) = subst (Longer B claim (cutAt long L) _ z) (plus-cut (L q₁ t) 1) (add-shift z k e h)
+      into (add-goto {q₁} X b z k g h) = subst (Longer B claim (cutAt long L) _ z) (plus-cut (L q₁ b) (claim q₁ X b z)) (add-goto X b z k g h)
+
+      out : {q z x : ℕ} → Longer B claim (cutAt long L) q z x → Longer B claim L q z x
+      out (add-shift {q₁} {t} z k e h) = subst (Longer B claim L _ z) (sym (plus-cut (L q₁ t) 1)) (add-shift z k e h)
+      out (add-goto {q₁} X b z k g h) = subst (Longer B claim L _ z) (sym (plus-cut (L q₁ b) (claim q₁ X b z))) (add-goto X b z k g h)
 
   -- the same for walks alone, while claims are still being lowered
   pub walk-longer : {q a n q′ z v : ℕ} {L : ℕ → ℕ → ℕ} → Witnessed B claim → ((q₁ b : ℕ) → b < B .terminals → Attained (λ w. Walk B q a w b n q₁) (L q₁ b))

@@ -53,7 +53,7 @@ loop-less : tie.Need-loop-less Inv-loop μ-loop
 loop-less c = search needs
 
 loop-again : tie.Need-loop-again Inv-loop μ-loop
-loop-again c = (omega arith, simp length-set (c .before .before .before .loop .inv .1), step-more _ _ (c .before .before .before .loop .inv .2) (step-least _ _ _ _ _ _ _ (omega arith) (omega arith) (c .before .before .before .loop .inv .1) (c .least .ensures) refl refl))
+loop-again c = (omega arith, simp length-set (c .before .before .before .loop .inv .1), step-more _ _ (c .before .before .before .loop .inv .2) (step-least _ _ _ _ _ _ _ (omega arith) (omega (arith, c .before .before .before .loop .inv .1)) (c .least .ensures) refl refl))
 
 returns : tie.Need-returns Inv-loop μ-loop
 returns c = (c .before .loop .inv .1, step-done (c .before .loop .inv .0) (c .loop-test .left) (c .before .loop .inv .2))

@@ -1,11 +1,8 @@
 -- `layers::transition::leave` meets its contract. Assumes nothing.
-use Rattle.book.specs.Tables.{tablesOf}
-use Rattle.layers.specs.Crossing.{claimIn}
-use mathlib.Core.Path.{_≡_, refl, _∙_, sym}
-use Prim.Native.Nat.{ℕ, _+_, _*_, _-_, _≤_, _<_}
 use native.Mathlib.Omega.{arith}
-use mathlib.Core.Path.{_≡_, refl, _∙_}
-use Prim.Native.Nat.{_*_, _-_, _≤_}
+use Rattle.book.specs.Tables.{tablesOf}
+use Rattle.walk.specs.CostLaws.{cut-within, cut-beyond}
+use Rattle.layers.specs.Crossing.{claimIn}
 use borrow.Author.Tests.{not-true}
 use Rattle.layers.specs.LengthenLaws.{step-far, step-unopened}
 use Rattle.layers.specs.StepLaws.{step-join}
@@ -19,7 +16,7 @@ use Rattle.layers.proofs.transition.opens.Reads as opens-reads
 use Rattle.layers.proofs.transition.shift_from.Reads as shift-from-reads
 
 returns : tie.Need-returns
-returns c = (c .before .before .before .pre .1 .1 .1, step-far (c .before .before .before .args .d) (tablesOf (c .before .before .before .args .cells .now)) (claimIn (c .before .before .before .args .d) (c .before .before .before .args .table .now)) {q₁ = c .before .before .before .args .q} {b = c .before .before .before .args .a} (c .if1 .taken))
+returns c = (c .before .before .before .pre .1 .1 .1, rw (cut-beyond _ _ (c .if1 .taken)) (step-far (c .before .before .before .args .d) (tablesOf (c .before .before .before .args .cells .now)) (claimIn (c .before .before .before .args .d) (c .before .before .before .args .table .now)) {q₁ = c .before .before .before .args .q} {b = c .before .before .before .args .a} (omega arith)))
 
 opens-requires : tie.Need-opens-requires
 opens-requires c κs = search needs
@@ -34,7 +31,7 @@ gotos-from-requires : tie.Need-gotos-from-requires
 gotos-from-requires c κs = search needs
 
 returns-3 : tie.Need-returns-3
-returns-3 c = (c .gotos-from .ensures .0, step-join (c .before .before .before .shift-from .ensures .1) (c .gotos-from .ensures .1))
+returns-3 c = (c .gotos-from .ensures .0, rw (cut-within _ _ (c .before .before .before .before .before .before .before .before .if1 .left)) (step-join (c .before .before .before .shift-from .ensures .1) (c .gotos-from .ensures .1)))
 
 pub leave-spec : {M : Type 1} → statement M
 leave-spec =

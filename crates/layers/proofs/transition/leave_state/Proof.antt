@@ -1,9 +1,9 @@
 -- `layers::transition::leave_state` meets its contract. Assumes nothing.
-use mathlib.Core.Path.{_≡_, refl, _∙_, sym}
-use Prim.Native.Nat.{ℕ, _+_, _*_, _-_, _≤_, _<_}
 use native.Mathlib.Omega.{arith}
-use mathlib.Core.Path.{_≡_, refl, _∙_}
-use Prim.Native.Nat.{_*_, _-_, _≤_}
+use Prim.Native.Nat.{_-_, _≤_}
+use Rattle.walk.specs.Cost.{cut, unreached}
+use Rattle.walk.specs.CostLaws.{cut-unreached}
+use Rattle.walk.specs.Layers.{cutAt}
 use Rattle.book.specs.Tables.{tablesOf}
 use Rattle.layers.specs.Layer.{Sized, valueIn}
 use Rattle.layers.specs.LayerLaws.{value-off, value-read}
@@ -19,16 +19,16 @@ use Rattle.layers.proofs.transition.leave_state.Lts as lts
 use Rattle.layers.proofs.transition.leave.Reads as leave-reads
 
 abbrev Inv-loop : tie.InvT-loop
-Inv-loop cells d table from on q values₀ flags₀ t row a₀ values flags a = (a ≤ t) × Sized values flags × Step (Upto (λ b. Leaves d (tablesOf cells) (claimIn d table) q b (valueIn from on q b)) a) (valueIn values₀ flags₀) (valueIn values flags)
+Inv-loop cells d table bound from on q values₀ flags₀ t row a₀ values flags a = (a ≤ t) × Sized values flags × Step (Upto (λ b. Leaves d (tablesOf cells) (claimIn d table) q b (cut bound (valueIn from on q b))) a) (valueIn values₀ flags₀) (valueIn values flags)
 
 abbrev μ-loop : tie.MeasureT-loop
-μ-loop cells d table from on q values₀ flags₀ t row a₀ values flags a = t - a
+μ-loop cells d table bound from on q values₀ flags₀ t row a₀ values flags a = t - a
 
 element-copy-out-if1 : tie.Need-element-copy-out-if1 Inv-loop μ-loop
 element-copy-out-if1 c = search needs
 
 returns : tie.Need-returns Inv-loop μ-loop
-returns c = (c .before .before .before .before .pre .1 .1 .1, step-off (c .before .before .before .before .args .d) (tablesOf (c .before .before .before .before .args .cells .now)) (claimIn (c .before .before .before .before .args .d) (c .before .before .before .before .args .table .now)) {q₁ = c .before .before .before .before .args .q} (valueIn (c .before .before .before .before .args .from .now) (c .before .before .before .before .args .on .now)) (λ b. value-off _ _ _ _ (c .if1 .taken)))
+returns c = (c .before .before .before .before .pre .1 .1 .1, step-off (c .before .before .before .before .args .d) (tablesOf (c .before .before .before .before .args .cells .now)) (claimIn (c .before .before .before .before .args .d) (c .before .before .before .before .args .table .now)) {q₁ = c .before .before .before .before .args .q} (cutAt (c .before .before .before .before .args .bound) (valueIn (c .before .before .before .before .args .from .now) (c .before .before .before .before .args .on .now))) (λ b. rw (value-off (c .before .before .before .before .args .from .now) (c .before .before .before .before .args .on .now) (c .before .before .before .before .args .q) b (c .if1 .taken)) (cut-unreached (c .before .before .before .before .args .bound))))
 
 mul-row : tie.Need-mul-row Inv-loop μ-loop
 mul-row c = search needs
@@ -46,7 +46,7 @@ element-copy-out-leave : tie.Need-element-copy-out-leave Inv-loop μ-loop
 element-copy-out-leave c = search needs
 
 leave-requires : tie.Need-leave-requires Inv-loop μ-loop
-leave-requires c κs = (c .before .before .before .before .before .before .before .before .before .pre .0, ((c .before .before .before .before .before .before .before .before .before .pre .1 .0 .0, c .before .before .before .loop-test .taken, c .before .before .before .before .before .before .before .before .before .pre .1 .0 .1), (c .before .before .before .before .before .before .before .before .before .pre .1 .1 .0, c .before .before .before .before .loop .inv .1)))
+leave-requires c κs = (c .before .before .before .before .before .before .before .before .before .pre .0, ((c .before .before .before .before .before .before .before .before .before .pre .1 .0 .0, c .before .before .before .loop-test .taken, c .before .before .before .before .before .before .before .before .before .pre .1 .0 .1, c .before .before .before .before .before .before .before .before .before .pre .1 .0 .2), (c .before .before .before .before .before .before .before .before .before .pre .1 .1 .0, c .before .before .before .before .loop .inv .1)))
 
 add-a : tie.Need-add-a Inv-loop μ-loop
 add-a c = search needs

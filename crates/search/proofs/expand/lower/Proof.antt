@@ -2,8 +2,8 @@
 use native.Mathlib.Omega.{arith}
 use mathlib.Core.Path.{refl}
 use lib.ListN.{length-set}
+use Rattle.layers.specs.StepLaws.{step-least}
 use Rattle.search.specs.EventLaws.{step-rows}
-use Rattle.search.specs.ExpandLaws.{step-lowered}
 use borrow.Author.Needs.{needs}
 use Rattle.search.proofs.expand.lower.Statement.{statement}
 use Rattle.search.proofs.expand.lower.Tie as tie
@@ -45,7 +45,7 @@ element-write-events : tie.Need-element-write-events
 element-write-events c = omega (arith, c .before .before .turn-on .ensures .0 .0)
 
 returns : tie.Need-returns
-returns c = ((simp length-set (c .before .before .turn-on .ensures .0 .0), c .before .before .turn-on .ensures .0 .1), step-rows _ _ _ _ _ (c .before .before .before .before .before .args .k) (omega arith) (c .before .before .turn-on .ensures .1) (step-lowered _ _ _ _ _ _ _ (c .before .before .before .before .before .pre .0 .2) (omega (arith, c .before .before .turn-on .ensures .0 .0)) (c .least .ensures) refl refl))
+returns c = ((simp length-set (c .before .before .turn-on .ensures .0 .0), c .before .before .turn-on .ensures .0 .1), step-rows _ _ _ _ _ (c .before .before .before .before .before .args .k) (omega arith) (c .before .before .turn-on .ensures .1) (step-least _ _ _ _ _ _ _ (c .before .before .before .before .before .pre .0 .2) (omega (arith, c .before .before .turn-on .ensures .0 .0)) (c .least .ensures) refl refl))
 
 pub lower-spec : {M : Type 1} → statement M
 lower-spec =
