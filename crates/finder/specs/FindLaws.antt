@@ -2,15 +2,13 @@
 use mathlib.Core.List.{List}
 use mathlib.Core.Path.{_≡_, refl}
 use Prim.Native.Nat.{ℕ, _≤_, _<_}
-use native.Mathlib.Decide.{decLe, decLt}
-use native.Mathlib.Omega.{arith}
-use borrow.Author.Tests.{lt-ltb, le-ltb, le-leb, lt-leb}
 use lib.ListN.{length}
 use Rattle.book.specs.Book.{ofCells, checked}
 use Rattle.book.specs.Tables.{tablesOf}
 use Rattle.book.specs.declared.Checked.{Checked}
 use Rattle.book.specs.declared.Checked.the-variants.{Valid, Refused as Faulty}
 use Rattle.book.specs.declared.Sizes.{Sizes}
+use Rattle.machine.specs.AdmissionLaws.{past-short, past-beyond}
 use Rattle.machine.specs.MachineLaws.{clash}
 use Rattle.finder.specs.Finder.{workCells, cleared, admitsPair, Answered, Finds, answers}
 use Rattle.finder.specs.declared.Found.{Found}
@@ -26,18 +24,13 @@ pub record PairAdmitted (s z work buffer : ℕ) (found : Checked) (d : Sizes) : 
 pub pair-admitted : (s z work buffer : ℕ) (found : Checked) (d : Sizes) → admitsPair s z work buffer found ≡ Valid d → PairAdmitted s z work buffer found d
 unfolding admitsPair
 pair-admitted s z work buffer (Faulty r) d e = absurd (clash cc)
-pair-admitted s z work buffer (Valid x) d e = go (decLt s (x .s)) (decLt z (x .t)) (decLe (workCells x) work) (decLe 1000 buffer)
-  where
-    go : Dec (s < x .s) → Dec (z < x .t) → Dec (workCells x ≤ work) → Dec (1000 ≤ buffer) → PairAdmitted s z work buffer (Valid x) d
-    go (no h) l k r = let f = rw (le-leb (x .s) s (omega arith)) at e in absurd (clash cc)
-    go (yes h) (no l) k r = let f = rw (lt-leb (x .s) s h, le-leb (x .t) z (omega arith)) at e in absurd (clash cc)
-    go (yes h) (yes l) (no k) r = let f = rw (lt-leb (x .s) s h, lt-leb (x .t) z l, lt-ltb work (workCells x) (omega arith)) at e in absurd (clash cc)
-    go (yes h) (yes l) (yes k) (no r) =
-        let f = rw (lt-leb (x .s) s h, lt-leb (x .t) z l, le-ltb work (workCells x) k, lt-ltb buffer 1000 (omega arith)) at e in absurd (clash cc)
-    go (yes h) (yes l) (yes k) (yes r) =
-        let f = rw (lt-leb (x .s) s h, lt-leb (x .t) z l, le-ltb work (workCells x) k, le-ltb buffer 1000 r) at e in
-        let same : x ≡ d = cc in
-        rw (← same) (record { book = refl; state = h; lookahead = l; room = k; enough = r })
+pair-admitted s z work buffer (Valid x) d e =
+    let (state, e₁) = past-beyond s (x .s) _ _ e in
+    let (lookahead, e₂) = past-beyond z (x .t) _ _ e₁ in
+    let (room, e₃) = past-short work (workCells x) _ _ e₂ in
+    let (enough, e₄) = past-short buffer 1000 _ _ e₃ in
+    let same : x ≡ d = cc in
+    rw (← same) (record { book = refl; state = state; lookahead = lookahead; room = room; enough = enough })
 
 pub pair-answered : {cells work buffer done left : List ℕ} {s z : ℕ} {r : Found} {d : Sizes}
     → admitsPair s z (length work) (length buffer) (checked (ofCells cells)) ≡ Valid d

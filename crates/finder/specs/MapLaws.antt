@@ -2,9 +2,7 @@
 use mathlib.Core.List.{List, _++_}
 use mathlib.Core.Path.{_≡_, refl, sym, _∙_, ap}
 use Prim.Native.Nat.{ℕ, _+_, _*_, _-_, _≤_, _<_}
-use native.Mathlib.Decide.{decLe}
 use native.Mathlib.Omega.{arith}
-use borrow.Author.Tests.{lt-ltb, le-ltb}
 use lib.ListN.{length, getD, replicate, drop, length-drop}
 use lib.Seq.{ext-getD, getD-drop}
 use Rattle.number.specs.Lent.{over}
@@ -14,6 +12,7 @@ use Rattle.book.specs.declared.Checked.{Checked}
 use Rattle.book.specs.declared.Checked.the-variants.{Valid, Refused as Faulty}
 use Rattle.book.specs.declared.Written.the-variants.{Count}
 use Rattle.book.specs.declared.Sizes.{Sizes}
+use Rattle.machine.specs.AdmissionLaws.{past-short}
 use Rattle.machine.specs.MachineLaws.{clash}
 use Rattle.layers.specs.Layer.{entryIn}
 use Rattle.layers.specs.Crossing.{room}
@@ -56,15 +55,11 @@ pub record MapAdmitted (work lent : ℕ) (found : Checked) (d : Sizes) : Type 0 
 pub map-admitted : (work lent : ℕ) (found : Checked) (d : Sizes) → admitsMap work lent found ≡ Valid d → MapAdmitted work lent found d
 unfolding admitsMap
 map-admitted work lent (Faulty r) d e = absurd (clash cc)
-map-admitted work lent (Valid x) d e = go (decLe (workCells x) work) (decLe (x .s * x .t) lent)
-  where
-    go : Dec (workCells x ≤ work) → Dec (x .s * x .t ≤ lent) → MapAdmitted work lent (Valid x) d
-    go (no h) l = let f = rw (lt-ltb work (workCells x) (omega arith)) at e in absurd (clash cc)
-    go (yes h) (no l) = let f = rw (le-ltb work (workCells x) h, lt-ltb lent (x .s * x .t) (omega arith)) at e in absurd (clash cc)
-    go (yes h) (yes l) =
-        let f = rw (le-ltb work (workCells x) h, le-ltb lent (x .s * x .t) l) at e in
-        let same : x ≡ d = cc in
-        rw (← same) (record { book = refl; room = h; enough = l })
+map-admitted work lent (Valid x) d e =
+    let (room, e₁) = past-short work (workCells x) _ _ e in
+    let (enough, e₂) = past-short lent (x .s * x .t) _ _ e₁ in
+    let same : x ≡ d = cc in
+    rw (← same) (record { book = refl; room = room; enough = enough })
 
 pub map-answered : {cells work lent done left : List ℕ} {d : Sizes} {n : ℕ} → admitsMap (length work) (length lent) (checked (ofCells cells)) ≡ Valid d
     → Filled cells d lent left → done ≡ cleared d work → n ≡ d .s * d .t → Maps cells work lent (Count n) done left

@@ -58,7 +58,22 @@ sound-most t (a ∷ w) = go (leb 1 a && ltb a t) (sound-most t w)
     go true h = omega arith
     go false h = omega arith
 
--- ---- what is admitted
+-- ---- what is admitted: past a test that refuses where a is below b, or where it is at least b
+module _ (a b : ℕ) (r : Refusal) (rest : Checked) {d : Sizes} where
+  pub past-short : cond (ltb a b) (Faulty r) rest ≡ Valid d → (b ≤ a) × (rest ≡ Valid d)
+  past-short e = go (decLe b a)
+    where
+      go : Dec (b ≤ a) → (b ≤ a) × (rest ≡ Valid d)
+      go (yes h) = (h, rw (le-ltb a b h) at e)
+      go (no h) = let f = rw (lt-ltb a b (omega arith)) at e in absurd (clash cc)
+
+  pub past-beyond : cond (leb b a) (Faulty r) rest ≡ Valid d → (a < b) × (rest ≡ Valid d)
+  past-beyond e = go (decLt a b)
+    where
+      go : Dec (a < b) → (a < b) × (rest ≡ Valid d)
+      go (yes h) = (h, rw (lt-leb b a h) at e)
+      go (no h) = let f = rw (le-leb b a (omega arith)) at e in absurd (clash cc)
+
 pub record Admitted (w : List ℕ) (z room : ℕ) (found : Checked) (d : Sizes) : Type 0 where
   pub book : found ≡ Valid d
   pub few : length w ≤ 1000
@@ -69,21 +84,13 @@ pub record Admitted (w : List ℕ) (z room : ℕ) (found : Checked) (d : Sizes) 
 pub admitted-valid : (w : List ℕ) (z room : ℕ) (found : Checked) (d : Sizes) → admitted w z room found ≡ Valid d → Admitted w z room found d
 unfolding admitted
 admitted-valid w z room (Faulty r) d e = absurd (clash cc)
-admitted-valid w z room (Valid x) d e = go (decLe (length w) 1000) (decLe (length w) (sound (x .t) w)) (decLt z (x .t)) (decLe 1024 room)
-  where
-    go : Dec (length w ≤ 1000) → Dec (length w ≤ sound (x .t) w) → Dec (z < x .t) → Dec (1024 ≤ room) → Admitted w z room (Valid x) d
-    go (no h) s l r = let f = rw (lt-ltb 1000 (length w) (omega arith)) at e in absurd (clash cc)
-    go (yes h) (no s) l r =
-        let f = rw (le-ltb 1000 (length w) h, lt-ltb (sound (x .t) w) (length w) (omega arith)) at e in absurd (clash cc)
-    go (yes h) (yes s) (no l) r =
-        let f = rw (le-ltb 1000 (length w) h, le-ltb (sound (x .t) w) (length w) s, le-leb (x .t) z (omega arith)) at e in absurd (clash cc)
-    go (yes h) (yes s) (yes l) (no r) =
-        let f = rw (le-ltb 1000 (length w) h, le-ltb (sound (x .t) w) (length w) s, lt-leb (x .t) z l, lt-ltb room 1024 (omega arith)) at e in
-        absurd (clash cc)
-    go (yes h) (yes s) (yes l) (yes r) =
-        let f = rw (le-ltb 1000 (length w) h, le-ltb (sound (x .t) w) (length w) s, lt-leb (x .t) z l, le-ltb room 1024 r) at e in
-        let same : x ≡ d = cc in
-        rw (← same) (record { book = refl; few = h; terminals = omega (arith, sound-most (x .t) w); lookahead = l; enough = r })
+admitted-valid w z room (Valid x) d e =
+    let (few, e₁) = past-short 1000 (length w) _ _ e in
+    let (terminals, e₂) = past-short (sound (x .t) w) (length w) _ _ e₁ in
+    let (lookahead, e₃) = past-beyond z (x .t) _ _ e₂ in
+    let (enough, e₄) = past-short room 1024 _ _ e₃ in
+    let same : x ≡ d = cc in
+    rw (← same) (record { book = refl; few = few; terminals = omega (arith, sound-most (x .t) w); lookahead = lookahead; enough = enough })
 
 -- ---- the call
 module _ (cells w : List ℕ) (z : ℕ) (lent : List ℕ) where
