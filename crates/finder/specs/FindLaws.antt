@@ -1,17 +1,12 @@
 -- Laws of the call for one pair. Assumes nothing.
-use mathlib.Core.List.{List}
 use mathlib.Core.Path.{_≡_, refl}
 use Prim.Native.Nat.{ℕ, _≤_, _<_}
-use lib.ListN.{length}
-use Rattle.book.specs.Book.{ofCells, checked}
-use Rattle.book.specs.Tables.{tablesOf}
 use Rattle.book.specs.declared.Checked.{Checked}
 use Rattle.book.specs.declared.Checked.the-variants.{Valid, Refused as Faulty}
 use Rattle.book.specs.declared.Sizes.{Sizes}
 use Rattle.machine.specs.AdmissionLaws.{past-short, past-beyond}
 use Rattle.machine.specs.MachineLaws.{clash}
-use Rattle.finder.specs.Finder.{workCells, cleared, admitsPair, Answered, Finds, answers}
-use Rattle.finder.specs.declared.Found.{Found}
+use Rattle.finder.specs.Finder.{workCells, admitsPair}
 
 -- ---- what is admitted
 pub record PairAdmitted (s z work buffer : ℕ) (found : Checked) (d : Sizes) : Type 0 where
@@ -31,8 +26,3 @@ pair-admitted s z work buffer (Valid x) d e =
     let (enough, e₄) = past-short buffer 1000 _ _ e₃ in
     let same : x ≡ d = cc in
     rw (← same) (record { book = refl; state = state; lookahead = lookahead; room = room; enough = enough })
-
-pub pair-answered : {cells work buffer done left : List ℕ} {s z : ℕ} {r : Found} {d : Sizes}
-    → admitsPair s z (length work) (length buffer) (checked (ofCells cells)) ≡ Valid d
-    → Answered (tablesOf cells) s z buffer r left → done ≡ cleared d work → Finds cells s z work buffer r done left
-pair-answered {d} e a g = rw (g, a .told, a .front) (answers d (a .outcome) e (a .right))

@@ -67,8 +67,8 @@ pub record Answered (B : Tables) (s z : ℕ) (buffer : List ℕ) (r : Found) (le
 pub data Finds (cells : List ℕ) (s z : ℕ) (work buffer : List ℕ) : Found → List ℕ → List ℕ → Type 0 where
   refuses : (r : Refusal) → admitsPair s z (length work) (length buffer) (checked (ofCells cells)) ≡ Faulty r
       → Finds cells s z work buffer (Refused r) work buffer
-  answers : (d : Sizes) (o : Outcome) → admitsPair s z (length work) (length buffer) (checked (ofCells cells)) ≡ Valid d
-      → Answer (λ a. a) (tablesOf cells) s z o → Finds cells s z work buffer (found o) (cleared d work) (over (sentence o) buffer)
+  answers : (d : Sizes) {r : Found} {left : List ℕ} → admitsPair s z (length work) (length buffer) (checked (ofCells cells)) ≡ Valid d
+      → Answered (tablesOf cells) s z buffer r left → Finds cells s z work buffer r (cleared d work) left
 
 -- 'The whole map is S × T cells by state, then terminal: the least length, 1,001 for long, 1,002 for unreached'
 pub record IsMap (cells : List ℕ) (d : Sizes) (map : List ℕ) : Type 0 where
@@ -77,11 +77,11 @@ pub record IsMap (cells : List ℕ) (d : Sizes) (map : List ℕ) : Type 0 where
 
 -- a map at the front of the cells that were lent
 pub record Filled (cells : List ℕ) (d : Sizes) (lent left : List ℕ) : Type 0 where
-  pub whole : List ℕ
-  pub right : IsMap cells d whole
-  pub front : left ≡ over whole lent
+  pub map : List ℕ
+  pub right : IsMap cells d map
+  pub front : left ≡ over map lent
 
 pub data Maps (cells work lent : List ℕ) : Written → List ℕ → List ℕ → Type 0 where
   declines : (r : Refusal) → admitsMap (length work) (length lent) (checked (ofCells cells)) ≡ Faulty r → Maps cells work lent (Unwritten r) work lent
-  fills : (d : Sizes) (map : List ℕ) → admitsMap (length work) (length lent) (checked (ofCells cells)) ≡ Valid d → IsMap cells d map
-      → Maps cells work lent (Count (length map)) (cleared d work) (over map lent)
+  fills : (d : Sizes) {left : List ℕ} → admitsMap (length work) (length lent) (checked (ofCells cells)) ≡ Valid d
+      → Filled cells d lent left → Maps cells work lent (Count (d .s * d .t)) (cleared d work) left

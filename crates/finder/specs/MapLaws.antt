@@ -1,16 +1,14 @@
 -- Laws of the whole map. Assumes nothing.
 use mathlib.Core.List.{List, _++_}
 use mathlib.Core.Path.{_≡_, refl, sym, _∙_, ap}
-use Prim.Native.Nat.{ℕ, _+_, _*_, _-_, _≤_, _<_}
+use Prim.Native.Nat.{ℕ, _+_, _*_, _-_, _≤_}
 use native.Mathlib.Omega.{arith}
-use lib.ListN.{length, getD, replicate, drop, length-drop}
+use lib.ListN.{replicate, drop, length-drop}
 use lib.Seq.{ext-getD, getD-drop}
 use Rattle.number.specs.Lent.{over}
 use Rattle.book.specs.Range.{Small}
-use Rattle.book.specs.Book.{ofCells, checked}
 use Rattle.book.specs.declared.Checked.{Checked}
 use Rattle.book.specs.declared.Checked.the-variants.{Valid, Refused as Faulty}
-use Rattle.book.specs.declared.Written.the-variants.{Count}
 use Rattle.book.specs.declared.Sizes.{Sizes}
 use Rattle.machine.specs.AdmissionLaws.{past-short}
 use Rattle.machine.specs.MachineLaws.{clash}
@@ -18,7 +16,7 @@ use Rattle.layers.specs.Layer.{entryIn}
 use Rattle.layers.specs.Crossing.{room}
 use Rattle.crossings.specs.Crossings.{Beyond}
 use Rattle.distances.specs.Distances.{StartTable}
-use Rattle.finder.specs.Finder.{workCells, cleared, admitsMap, IsMap, Filled, Maps, fills}
+use Rattle.finder.specs.Finder.{workCells, cleared, admitsMap, Filled}
 use Rattle.finder.specs.FinderLaws.{over-zeros}
 use Rattle.finder.specs.Rows.{rows}
 use Rattle.finder.specs.RowsLaws.{rows-length, rows-entry}
@@ -38,7 +36,7 @@ work-cleared d b e f = f ∙ rw e (beyond-cleared {m = workCells d} (omega arith
 pub rows-map : {d : Sizes} {cells dist lent left : List ℕ} → Small d → StartTable d cells dist → left ≡ over (rows dist (d .t) (d .s)) lent → Filled cells d lent left
 unfolding entryIn
 rows-map {d} {cells} {dist} h x e = record {
-  whole = rows dist (d .t) (d .s);
+  map = rows dist (d .t) (d .s);
   right = record {
     size = rows-length dist (d .t) (x .size) (h .terminals) (d .s) (h .states);
     exact = λ s z hs hz. rw (rows-entry dist (d .t) (x .size) (h .terminals) (d .s) s z (h .states) hs hz) (x .exact s z hs hz);
@@ -60,7 +58,3 @@ map-admitted work lent (Valid x) d e =
     let (enough, e₂) = past-short lent (x .s * x .t) _ _ e₁ in
     let same : x ≡ d = cc in
     rw (← same) (record { book = refl; room = room; enough = enough })
-
-pub map-answered : {cells work lent done left : List ℕ} {d : Sizes} {n : ℕ} → admitsMap (length work) (length lent) (checked (ofCells cells)) ≡ Valid d
-    → Filled cells d lent left → done ≡ cleared d work → n ≡ d .s * d .t → Maps cells work lent (Count n) done left
-map-answered {d} e f g h = rw (g, f .front, h ∙ sym (f .right .size)) (fills d (f .whole) e (f .right))

@@ -1,8 +1,8 @@
 -- `finder::one_pair::find` meets its contract: what is admitted is answered. Assumes nothing.
 use mathlib.Core.Path.{sym, _∙_}
 use Rattle.book.specs.TablesLaws.{valid-holds}
-use Rattle.finder.specs.Finder.{refuses}
-use Rattle.finder.specs.FindLaws.{pair-admitted, pair-answered}
+use Rattle.finder.specs.Finder.{refuses, answers}
+use Rattle.finder.specs.FindLaws.{pair-admitted}
 use borrow.Author.Needs.{needs}
 use Rattle.finder.proofs.one_pair.find.Statement.{statement}
 use Rattle.finder.proofs.one_pair.find.Tie as tie
@@ -33,7 +33,7 @@ same-length-2 : tie.Need-same-length-2
 same-length-2 c = search needs
 
 returns-2 : tie.Need-returns-2
-returns-2 c = pair-answered (sym (c .before .before .before .before .before .before .before .before .before .before .admit-pair .ensures) ∙ c .before .before .before .before .before .before .before .before .d .given .1) (c .before .before .before .before .solve .ensures .0) (c .before .before .before .before .solve .ensures .1)
+returns-2 c = rw (c .before .before .before .before .solve .ensures .1) (answers _ (sym (c .before .before .before .before .before .before .before .before .before .before .admit-pair .ensures) ∙ c .before .before .before .before .before .before .before .before .d .given .1) (c .before .before .before .before .solve .ensures .0))
 
 pub find-spec : {M : Type 1} → statement M
 find-spec =

@@ -1,10 +1,10 @@
 -- `finder::whole_map::map` meets its contract: what is admitted is filled. Assumes nothing.
 use native.Mathlib.Omega.{arith}
-use mathlib.Core.Path.{refl, sym, _∙_}
+use mathlib.Core.Path.{sym, _∙_}
 use Rattle.book.specs.TablesLaws.{valid-holds}
 use Rattle.book.specs.RangeLaws.{actions-few}
-use Rattle.finder.specs.Finder.{declines}
-use Rattle.finder.specs.MapLaws.{map-admitted, map-answered}
+use Rattle.finder.specs.Finder.{declines, fills}
+use Rattle.finder.specs.MapLaws.{map-admitted}
 use borrow.Author.Needs.{needs}
 use Rattle.finder.proofs.whole_map.map.Statement.{statement}
 use Rattle.finder.proofs.whole_map.map.Tie as tie
@@ -38,7 +38,7 @@ same-length-2 : tie.Need-same-length-2
 same-length-2 c = search needs
 
 returns-2 : tie.Need-returns-2
-returns-2 c = map-answered (sym (c .before .before .before .before .before .before .before .before .before .before .admit-map .ensures) ∙ c .before .before .before .before .before .before .before .before .d .given .1) (c .before .before .before .before .fill .ensures .0) (c .before .before .before .before .fill .ensures .1) refl
+returns-2 c = rw (c .before .before .before .before .fill .ensures .1) (fills _ (sym (c .before .before .before .before .before .before .before .before .before .before .admit-map .ensures) ∙ c .before .before .before .before .before .before .before .before .d .given .1) (c .before .before .before .before .fill .ensures .0))
 
 pub map-spec : {M : Type 1} → statement M
 map-spec =
