@@ -1,6 +1,7 @@
 -- What the finder's calls answer and leave. Assumes nothing.
-use mathlib.Core.Bool.{cond}
+use mathlib.Core.Bool.{Bool, true, cond}
 use mathlib.Core.List.{List, []}
+use mathlib.Core.Logic.{_↔_}
 use mathlib.Core.Path.{_≡_}
 use Prim.Native.Nat.{ℕ, _+_, _*_, _<_}
 use lib.Dec.{ltb, leb}
@@ -15,6 +16,7 @@ use Rattle.book.specs.declared.Written.{Written}
 use Rattle.book.specs.declared.Written.the-variants.{Count, Refused as Unwritten}
 use Rattle.book.specs.declared.Sizes.{Sizes}
 use Rattle.machine.specs.Machine.{Reaches}
+use Rattle.sets.specs.Set.{setOf, countOf}
 use Rattle.walk.specs.Answer.{Outcome, Answer}
 use Rattle.walk.specs.Answer.{Unreached as Never, Long as Far, Sentence as Word}
 use Rattle.walk.specs.Cost.{Exact}
@@ -43,6 +45,12 @@ admitsPair s z work buffer (Valid d) =
 unfoldable pub admitsMap : ℕ → ℕ → Checked → Checked
 admitsMap work lent (Faulty r) = Faulty r
 admitsMap work lent (Valid d) = cond (ltb work (workCells d)) (refused 13) (cond (ltb lent (d .s * d .t)) (refused 12) (Valid d))
+
+-- those of the sets: a mask and a size for each state
+unfoldable pub admitsSets : ℕ → ℕ → ℕ → Checked → Checked
+admitsSets work masks sizes (Faulty r) = Faulty r
+admitsSets work masks sizes (Valid d) =
+    cond (ltb work (workCells d)) (refused 13) (cond (ltb masks (d .s)) (refused 12) (cond (ltb sizes (d .s)) (refused 12) (Valid d)))
 
 -- the answer as the call gives it, and the sentence that it leaves
 abbrev pub found : Outcome → Found
@@ -85,3 +93,27 @@ pub data Maps (cells work lent : List ℕ) : Written → List ℕ → List ℕ �
   declines : (r : Refusal) → admitsMap (length work) (length lent) (checked (ofCells cells)) ≡ Faulty r → Maps cells work lent (Unwritten r) work lent
   fills : (d : Sizes) {left : List ℕ} → admitsMap (length work) (length lent) (checked (ofCells cells)) ≡ Valid d
       → Filled cells d lent left → Maps cells work lent (Count (d .s * d .t)) (cleared d work) left
+
+-- 'For each state the reached lookaheads, long ones too, are also given as a 32-bit set, bit z for terminal z, and how many lookaheads are
+-- in the set is given beside it': a pair is reached if some sequence, however long, reaches it
+pub record IsSets (cells : List ℕ) (d : Sizes) (masks sizes : List ℕ) : Type 0 where
+  pub reached : ℕ → ℕ → Bool
+  pub decides : (s z : ℕ) → s < d .s → z < d .t → (reached s z ≡ true) ↔ ((w : List ℕ) × Reaches (tablesOf cells) w z s)
+  pub many : length masks ≡ d .s
+  pub mask : (s : ℕ) → s < d .s → getD masks s 0 ≡ setOf (reached s) (d .t)
+  pub beside : length sizes ≡ d .s
+  pub size : (s : ℕ) → s < d .s → getD sizes s 0 ≡ countOf (reached s) (d .t)
+
+-- the sets at the front of the masks that were lent, and their sizes at the front of the sizes
+pub record Gathered (cells : List ℕ) (d : Sizes) (masks sizes masksLeft sizesLeft : List ℕ) : Type 0 where
+  pub sets : List ℕ
+  pub counts : List ℕ
+  pub right : IsSets cells d sets counts
+  pub front : masksLeft ≡ over sets masks
+  pub beside : sizesLeft ≡ over counts sizes
+
+pub data Gathers (cells work masks sizes : List ℕ) : Written → List ℕ → List ℕ → List ℕ → Type 0 where
+  rejects : (r : Refusal) → admitsSets (length work) (length masks) (length sizes) (checked (ofCells cells)) ≡ Faulty r
+      → Gathers cells work masks sizes (Unwritten r) work masks sizes
+  gathers : (d : Sizes) {masksLeft sizesLeft : List ℕ} → admitsSets (length work) (length masks) (length sizes) (checked (ofCells cells)) ≡ Valid d
+      → Gathered cells d masks sizes masksLeft sizesLeft → Gathers cells work masks sizes (Count (d .s)) (cleared d work) masksLeft sizesLeft

@@ -3,6 +3,8 @@ pub mod FinderLaws
 pub mod Rows
 pub mod RowsLaws
 pub mod MapLaws
+pub mod Reached
+pub mod ReachedLaws
 pub mod AdvanceLaws
 pub mod Still
 pub mod StillLaws

@@ -1,5 +1,5 @@
 -- Laws of rows. Assumes nothing.
-use mathlib.Core.List.{List, [], _++_}
+use mathlib.Core.List.{List, _++_}
 use mathlib.Core.Path.{_≡_, refl, sym, _∙_, ap, ap₂}
 use Prim.Native.Nat.{ℕ, zero, suc, _+_, _*_, _≤_, _<_}
 use native.Mathlib.Decide.{ℕ-discrete}
@@ -7,14 +7,14 @@ use native.Mathlib.Nat.{suc-mul, zero-mul, not-suc-le-zero}
 use native.Mathlib.Numerals.{add-one}
 use native.Mathlib.Omega.{arith}
 use lib.ListN.{length, getD, take, drop, length-append, length-take, length-drop, set, length-set, List·getD-append}
-use lib.Seq.{paste, sets, sets-eq, length-take-le, getD-append-add, getD-take, getD-drop, paste-zero, paste-suc}
+use lib.Seq.{paste, sets-eq, getD-append-add, getD-take, getD-drop, paste-zero, paste-suc}
 use Rattle.number.specs.Lent.{over}
 use Rattle.number.specs.LentLaws.{length-over, over-more}
 use Rattle.book.specs.IndexLaws.{index-below, row-below}
-use Rattle.finder.specs.Rows.{rows}
+use Rattle.finder.specs.Rows.{row, rows}
 
 module _ (from : List ℕ) (t : ℕ) (fits : length from ≡ 4096) (narrow : t ≤ 32) where
-  row-length : (q : ℕ) → q < 128 → length (take t (drop (q * 32) from)) ≡ t
+  pub row-length : (q : ℕ) → q < 128 → length (row from t q) ≡ t
   row-length q h = simp (length-take, length-drop) (omega arith)
 
   pub rows-length : (s : ℕ) → s ≤ 128 → length (rows from t s) ≡ s * t
@@ -29,13 +29,13 @@ module _ (from : List ℕ) (t : ℕ) (fits : length from ≡ 4096) (narrow : t �
   rows-entry (suc s) q z hs hq hz = go (ℕ-discrete q s) (λ l. rows-entry s q z (omega arith) l hz)
     where
       go : Dec (q ≡ s) → (q < s → getD (rows from t s) (q * t + z) 0 ≡ getD from (q * 32 + z) 0)
-          → getD (rows from t s ++ take t (drop (s * 32) from)) (q * t + z) 0 ≡ getD from (q * 32 + z) 0
+          → getD (rows from t s ++ row from t s) (q * t + z) 0 ≡ getD from (q * 32 + z) 0
       go (yes e) r =
           let at : q * t + z ≡ length (rows from t s) + z = omega (arith, rows-length s (omega arith), ap (λ (k : ℕ). k * t) e) in
           rw (at, getD-append-add, getD-take t (drop (s * 32) from) z 0 hz, getD-drop, e)
       go (no n) r =
           let l : q < s = omega arith in
-          List·getD-append (rows from t s) (take t (drop (s * 32) from)) 0 (q * t + z) (omega (arith, rows-length s (omega arith), index-below s t q z l hz)) ∙ r l
+          List·getD-append (rows from t s) (row from t s) 0 (q * t + z) (omega (arith, rows-length s (omega arith), index-below s t q z l hz)) ∙ r l
 
   -- one row more
   pub rows-more : (s : ℕ) (to : List ℕ) → s < 128 → suc s * t ≤ length to
@@ -43,14 +43,14 @@ module _ (from : List ℕ) (t : ℕ) (fits : length from ≡ 4096) (narrow : t �
   unfolding rows
   rows-more s to h room =
       let done = rows from t s in
-      let row = take t (drop (s * 32) from) in
+      let last = row from t s in
       let now = over done to in
       let before = rows-length s (omega arith) in
       let long = row-length s h in
-      let enough : length done + length row ≤ length to = omega (arith, suc-mul s t) in
-      ap₂ (λ (a b : ℕ). take a now ++ row ++ drop (a + b) now) (sym before) (sym long)
-      ∙ sym (sets-eq row now (length done) (rw (length-over done to (omega arith)) enough))
-      ∙ over-more done row to enough
+      let enough : length done + length last ≤ length to = omega (arith, suc-mul s t) in
+      ap₂ (λ (a b : ℕ). take a now ++ last ++ drop (a + b) now) (sym before) (sym long)
+      ∙ sym (sets-eq last now (length done) (rw (length-over done to (omega arith)) enough))
+      ∙ over-more done last to enough
 
 -- ---- copying: i entries from a place of one list stand at a place of another
 pub record Copied (from : List ℕ) (start : ℕ) (lent : List ℕ) (at : ℕ) (now : List ℕ) (i : ℕ) : Type 0 where

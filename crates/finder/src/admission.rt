@@ -5,7 +5,7 @@ ghost use lib.ListN.{length, replicate};
 ghost use Rattle.number.specs.Lent.{over};
 ghost use Rattle.book.specs.Book.{ofCells, checked};
 ghost use Rattle.book.specs.Range.{Small};
-ghost use Rattle.finder.specs.Finder.{workCells, refused, admitsPair, admitsMap};
+ghost use Rattle.finder.specs.Finder.{workCells, refused, admitsPair, admitsMap, admitsSets};
 use book::Checked;
 use book::Sizes;
 use number::Refusal;
@@ -57,6 +57,25 @@ pub fn admit_map(cells: &[u16], work: usize, lent: usize) -> Checked
         return refuse(13);
     }
     if lent < d.s * d.t {
+        return refuse(12);
+    }
+    found
+}
+
+pub fn admit_sets(cells: &[u16], work: usize, masks: usize, sizes: usize) -> Checked
+    ensures { λ r. ⌜ r ≡ admitsSets work masks sizes (checked (ofCells (now (cells .entry)))) ⌝ }
+{
+    let found = book::check(cells);
+    let Checked::Valid(d) = found else {
+        return found;
+    };
+    if work < work_cells(d) {
+        return refuse(13);
+    }
+    if masks < d.s {
+        return refuse(12);
+    }
+    if sizes < d.s {
         return refuse(12);
     }
     found

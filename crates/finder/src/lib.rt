@@ -3,8 +3,10 @@ mod admission;
 mod answer;
 mod choice;
 mod choosing;
+mod measure;
 mod one_pair;
 mod pair;
+mod reached;
 mod rows;
 mod still;
 mod taking;
@@ -12,6 +14,7 @@ mod whole_map;
 
 use number::Refusal;
 pub use one_pair::find;
+pub use reached::sets;
 pub use whole_map::map;
 
 // What the finder answers for one pair; a sentence stands at the front of the lent buffer.

@@ -5,14 +5,11 @@ ghost use lib.ListN.{length};
 ghost use Rattle.book.specs.TablesLaws.{Holds};
 ghost use Rattle.finder.specs.Finder.{workCells, cleared, Filled, Maps};
 use crate::admission::admit_map;
-use crate::admission::clear;
-use crate::admission::work_cells;
+use crate::measure::distances_in;
 use crate::rows::copy_rows;
 use book::Checked;
 use book::Sizes;
 use book::Written;
-use crossings::crossings;
-use distances::from_start;
 use walk::UNREACHED;
 
 // The map of an accepted book, in room that is enough.
@@ -22,14 +19,11 @@ fn fill(cells: &[u16], d: Sizes, work: &mut [u16], lent: &mut [u16])
     ensures { λ _. ⌜ Filled (now (cells .entry)) d (now (lent .entry)) (now (lent .exit)) ⌝ }
     ensures { λ _. ⌜ now (work .exit) ≡ cleared d (now (work .entry)) ⌝ }
 {
-    crossings(cells, d, work);
     let mut dist = [UNREACHED; 4096];
-    from_start(cells, d, work, &mut dist);
+    distances_in(cells, d, work, &mut dist);
     let s = d.s;
     let t = d.t;
     copy_rows(&dist, s, t, lent);
-    let n = work_cells(d);
-    clear(work, n);
 }
 
 // Writes S × T cells by state, then terminal, and says how many.

@@ -1,0 +1,81 @@
+-- `finder::reached::write_sets` meets its contract: one state after the other. Assumes nothing.
+use native.Mathlib.Omega.{arith}
+use native.Mathlib.Nat.{le-antisymm}
+use mathlib.Core.Path.{_∙_, ap}
+use Prim.Native.Nat.{_-_, _≤_}
+use lib.Count.{ones}
+use Rattle.sets.specs.SetLaws.{set-count}
+use Rattle.finder.specs.Reached.{maskIn, sizeIn}
+use Rattle.finder.specs.ReachedLaws.{Stored, stored-none, stored-more}
+use borrow.Author.Needs.{needs}
+use Rattle.finder.proofs.reached.write_sets.Statement.{statement}
+use Rattle.finder.proofs.reached.write_sets.Tie as tie
+use Rattle.finder.proofs.reached.write_sets.Reads as reads
+use Rattle.finder.proofs.reached.write_sets.Lts as lts
+use Rattle.finder.proofs.reached.mask_of.Reads as mask-of-reads
+use Rattle.sets.proofs.size.Reads as size-reads
+
+abbrev Inv-loop : tie.InvT-loop
+Inv-loop dist s t masks₀ sizes₀ q₀ masks sizes q = (q ≤ s) × Stored (maskIn dist t) masks₀ masks q × Stored (sizeIn dist t) sizes₀ sizes q
+
+abbrev μ-loop : tie.MeasureT-loop
+μ-loop dist s t masks₀ sizes₀ q₀ masks sizes q = s - q
+
+loop-holds : tie.Need-loop-holds Inv-loop μ-loop
+loop-holds c = (omega arith, stored-none, stored-none)
+
+mask-of-requires : tie.Need-mask-of-requires Inv-loop μ-loop
+mask-of-requires c κs = search needs
+
+mul-masks : tie.Need-mul-masks Inv-loop μ-loop
+mul-masks c = search needs
+
+slice-write-masks : tie.Need-slice-write-masks Inv-loop μ-loop
+slice-write-masks c = omega (arith, c .before .before .loop .inv .1 .size, c .before .before .before .before .before .before .pre)
+
+size-requires : tie.Need-size-requires Inv-loop μ-loop
+size-requires c κs = search needs
+
+mul-sizes : tie.Need-mul-sizes Inv-loop μ-loop
+mul-sizes c = search needs
+
+slice-write-sizes : tie.Need-slice-write-sizes Inv-loop μ-loop
+slice-write-sizes c = omega (arith, c .before .before .before .loop .inv .2 .size, c .before .before .before .before .before .before .before .pre)
+
+add-q : tie.Need-add-q Inv-loop μ-loop
+add-q c = search needs
+
+loop-less : tie.Need-loop-less Inv-loop μ-loop
+loop-less c = search needs
+
+loop-again : tie.Need-loop-again Inv-loop μ-loop
+loop-again c = (omega arith, stored-more (c .before .before .before .loop .inv .1) (omega (arith, c .before .before .before .before .before .before .before .pre)) (c .before .mask-of .ensures), stored-more (c .before .before .before .loop .inv .2) (omega (arith, c .before .before .before .before .before .before .before .pre)) (c .size .ensures ∙ ap ones (c .before .mask-of .ensures) ∙ set-count _ _))
+
+same-length : tie.Need-same-length Inv-loop μ-loop
+same-length c = c .before .loop .inv .1 .size
+
+same-length-2 : tie.Need-same-length-2 Inv-loop μ-loop
+same-length-2 c = c .before .loop .inv .2 .size
+
+returns : tie.Need-returns Inv-loop μ-loop
+returns c = let all = le-antisymm (c .before .loop .inv .0) (c .loop-test .left) in (rw all at (c .before .loop .inv .1 .front), rw all at (c .before .loop .inv .2 .front))
+
+pub write-sets-spec : {M : Type 1} → statement M
+write-sets-spec =
+    tie.close
+    (tie.spec
+    Inv-loop
+    μ-loop
+    loop-holds
+    mask-of-requires
+    mul-masks
+    slice-write-masks
+    size-requires
+    mul-sizes
+    slice-write-sizes
+    add-q
+    loop-less
+    loop-again
+    same-length
+    same-length-2
+    returns)
