@@ -1,11 +1,11 @@
 // What sequences reach: one pair, the whole map, the sets.
 mod admission;
-mod answer;
 mod choice;
 mod choosing;
 mod measure;
 mod one_pair;
 mod pair;
+mod prepared;
 mod reached;
 mod rows;
 mod still;
@@ -16,6 +16,12 @@ use number::Refusal;
 pub use one_pair::find;
 pub use reached::sets;
 pub use whole_map::map;
+
+// For our own crates, which answer many pairs of one book: `crossings::crossings` builds the crossing table in the work cells
+// once, `answer` reads it for each pair, and `clear` leaves the first `work_cells` of them zero.
+pub use admission::clear;
+pub use admission::work_cells;
+pub use prepared::answer;
 
 // What the finder answers for one pair; a sentence stands at the front of the lent buffer.
 pub enum Found {

@@ -9,7 +9,7 @@ use crate::Found;
 use crate::admission::admit_pair;
 use crate::admission::clear;
 use crate::admission::work_cells;
-use crate::answer::answer;
+use crate::prepared::answer;
 use book::Checked;
 use book::Sizes;
 use crossings::crossings;

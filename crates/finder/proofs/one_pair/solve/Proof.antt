@@ -8,7 +8,7 @@ use Rattle.finder.proofs.one_pair.solve.Lts as lts
 use Rattle.crossings.proofs.crossings.Reads as crossings-reads
 use Rattle.finder.proofs.admission.clear.Reads as clear-reads
 use Rattle.finder.proofs.admission.work_cells.Reads as work-cells-reads
-use Rattle.finder.proofs.answer.answer.Reads as answer-reads
+use Rattle.finder.proofs.prepared.answer.Reads as answer-reads
 
 crossings-requires : tie.Need-crossings-requires
 crossings-requires c κs = search needs
