@@ -18,3 +18,4 @@ pub mod ChoosingLaws
 pub mod Pair
 pub mod PairLaws
 pub mod FindLaws
+pub mod AgreementLaws
