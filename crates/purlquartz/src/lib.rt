@@ -1,0 +1,16 @@
+// The library for C and Rust: each public call under a C name, with its answer as six numbers. The first is the kind, 0 for a refusal; the
+// others are its values, 0 where there is none.
+mod books;
+mod entries;
+mod pairs;
+mod runs;
+mod told;
+
+pub use books::purlquartz_check;
+pub use books::purlquartz_read;
+pub use books::purlquartz_write;
+pub use entries::purlquartz_check_list;
+pub use entries::purlquartz_entry;
+pub use pairs::purlquartz_find;
+pub use pairs::purlquartz_map;
+pub use runs::purlquartz_run;
