@@ -64,29 +64,37 @@ module _ (bytes : List ℕ) where
 
 -- ---- the start: the rest that `check_list` answers holds the list's entries
 module _ (bytes : List ℕ) (es : List Entry) (end : ℕ) where
-  list-holds : (t : ℕ) → t ≤ 32 → listOf t bytes ≡ entries es end → Holds bytes (record { at = after (numberAt bytes 0); left = length es }) es
+  -- the entries stand after the count, and nothing after them
+  pub record Ahead (t : ℕ) : Type 0 where
+    pub ahead : entriesAt t bytes (length es) (after (numberAt bytes 0)) ≡ entries es end
+    pub closed : length bytes ≤ end
+
+  pub list-ahead : (t : ℕ) → listOf t bytes ≡ entries es end → Ahead t
   unfolding listOf
-  list-holds t few e = by-count (admitted countFault 0 (numberAt bytes 0)) refl
+  list-ahead t e = by-count (admitted countFault 0 (numberAt bytes 0)) refl
     where
       by-end : (n : ℕ) (next : Cursor) → admitted countFault 0 (numberAt bytes 0) ≡ Value n next → (xs : List Entry) (last : ℕ)
           → entriesAt t bytes n (next .at) ≡ entries xs last → closed (length bytes) (entries xs last) ≡ entries es end → Dec (last < length bytes)
-          → Holds bytes (record { at = after (numberAt bytes 0); left = length es }) es
+          → Ahead t
       by-end n next f xs last g i (yes h) = absurd (refused-not-entries _ es end (rw (lt-ltb last (length bytes) h) at i))
       by-end n next f xs last g i (no h) =
           let j : entries xs last ≡ entries es end = rw (le-ltb last (length bytes) (omega arith)) at i in
           let ahead : entriesAt t bytes n (next .at) ≡ entries es end = g ∙ j in
           let first : after (numberAt bytes 0) ≡ next .at = rw (admitted-found countFault 0 (numberAt bytes 0) n next f .0) in
           let same : last ≡ end = cc in
-          record { t = t; few = few; end = end; ahead = rw (first, entries-count t bytes n (next .at) es end ahead) ahead; closed = omega arith }
+          record { ahead = rw (first, entries-count t bytes n (next .at) es end ahead) ahead; closed = omega arith }
 
       by-entries : (n : ℕ) (next : Cursor) → admitted countFault 0 (numberAt bytes 0) ≡ Value n next → (l : Listed)
-          → entriesAt t bytes n (next .at) ≡ l → closed (length bytes) l ≡ entries es end → Holds bytes (record { at = after (numberAt bytes 0); left = length es }) es
+          → entriesAt t bytes n (next .at) ≡ l → closed (length bytes) l ≡ entries es end → Ahead t
       by-entries n next f (refused r) g i = absurd (refused-not-entries r es end i)
       by-entries n next f (entries xs last) g i = by-end n next f xs last g i (decLt last (length bytes))
 
-      by-count : (m : Number) → admitted countFault 0 (numberAt bytes 0) ≡ m → Holds bytes (record { at = after (numberAt bytes 0); left = length es }) es
+      by-count : (m : Number) → admitted countFault 0 (numberAt bytes 0) ≡ m → Ahead t
       by-count (Refused r) f = absurd (refused-not-entries r es end (rw f at e))
       by-count (Value n next) f = by-entries n next f (entriesAt t bytes n (next .at)) refl (rw f at e)
+
+  list-holds : (t : ℕ) → t ≤ 32 → listOf t bytes ≡ entries es end → Holds bytes (record { at = after (numberAt bytes 0); left = length es }) es
+  list-holds t few e = let a = list-ahead t e in record { t = t; few = few; end = end; ahead = a .ahead; closed = a .closed }
 
   pub listed-holds : (cells : List ℕ) → listIn cells bytes ≡ entries es end
       → (rest : Rest) × (listing bytes (listIn cells bytes) ≡ Entries rest) × Holds bytes rest es

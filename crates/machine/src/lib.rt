@@ -7,6 +7,7 @@ mod reductions;
 ghost use mathlib.Core.Path.{_≡_};
 ghost use Rattle.machine.specs.Run.{running};
 use book::Checked;
+pub use driver::drive;
 use number::Refusal;
 
 // How many states a run can stack.
