@@ -1,0 +1,25 @@
+-- `judgement::coverage::cover` meets its contract: the distances from the start decide which states fail. Assumes nothing.
+use Rattle.judgement.specs.CoverageLaws.{start-covered}
+use borrow.Author.Needs.{needs}
+use Rattle.judgement.proofs.coverage.cover.Statement.{statement}
+use Rattle.judgement.proofs.coverage.cover.Tie as tie
+
+crossings-requires : tie.Need-crossings-requires
+crossings-requires c κs = search needs
+
+from-start-requires : tie.Need-from-start-requires
+from-start-requires c κs = search needs
+
+lowest-lacking-requires : tie.Need-lowest-lacking-requires
+lowest-lacking-requires c κs = search needs
+
+same-length : tie.Need-same-length
+same-length c = search needs
+
+returns : tie.Need-returns
+returns c = (start-covered (c .before .before .before .before .before .before .before .before .before .before .before .pre .0) (c .before .before .from-start .ensures) (c .lowest-lacking .ensures), c .before .before .before .before .before .before .before .crossings .ensures .1)
+
+pub cover-spec : {M : Type 1} → statement M
+cover-spec =
+    tie.close
+    (tie.spec crossings-requires from-start-requires lowest-lacking-requires same-length returns)

@@ -1,0 +1,119 @@
+-- Laws of one entry: its run is admitted, ends in a state of the book, and leaves the cells after the stack's. Assumes nothing.
+use mathlib.Core.Bool.{true, false≢true}
+use mathlib.Core.List.{List, [], _∷_, _++_, reverse}
+use mathlib.Core.Path.{_≡_, refl, sym, _∙_, ap, ap₂}
+use Prim.Native.Nat.{ℕ, suc, _+_, _-_, _≤_, _<_}
+use native.Mathlib.Decide.{decLe}
+use native.Mathlib.Omega.{arith}
+use borrow.Author.Tests.{le-leb, lt-ltb, eqb-true}
+use lib.ListN.{length, getD, take, drop, replicate, length-append, length-take, length-drop, length-replicate, length-reverse}
+use lib.Seq.{drop-at}
+use Rattle.book.specs.Tables.{Tables, tablesOf}
+use Rattle.book.specs.TablesLaws.{Holds, InRange, in-range}
+use Rattle.book.specs.declared.Sizes.{Sizes}
+use Rattle.machine.specs.Machine.{Reaches}
+use Rattle.machine.specs.Run.{runs, sound, delivered}
+use Rattle.machine.specs.RunLaws.{sound-terminals, run-error}
+use Rattle.machine.specs.declared.Ending.{Ending}
+use Rattle.machine.specs.declared.Ending.the-variants.{Accepted, Error, Broken, Passed, Deep, Spinning}
+use Rattle.machine.specs.declared.Ran.{Ran}
+use Rattle.machine.specs.declared.Ran.the-variants.{Ended}
+use Rattle.walk.specs.Walk.{Walk, here, shifted, crossed}
+use Rattle.walk.specs.WalkLaws.{reaches-walk}
+use Rattle.layers.specs.CrossingLaws.{terminals-are, states-are}
+use Rattle.lists.specs.Entry.{sentence}
+use Rattle.lists.specs.EntryLaws.{Spelled}
+use Rattle.lists.specs.declared.Entry.{Entry}
+use Rattle.judgement.specs.Judgement.{runOf, isRight, stateOf}
+use Rattle.judgement.specs.Turns.{weighed}
+use Rattle.judgement.specs.declared.Verdict.{Verdict}
+
+-- ---- the sentence
+sound-all : (t : ℕ) (w : List ℕ) → ((i : ℕ) → i < length w → (1 ≤ getD w i 0) × (getD w i 0 < t)) → sound t w ≡ length w
+sound-all t [] f = refl
+sound-all t (a ∷ w) f =
+    let (some, below) = f 0 (omega arith) in
+    rw (le-leb 1 a some, lt-ltb a t below) (ap suc (sound-all t w (λ i h. f (suc i) (omega arith))))
+
+module _ {t : ℕ} {bytes : List ℕ} {e : Entry} (s : Spelled t bytes e) where
+  pub spelled-length : length (sentence bytes e) ≡ e .len
+  spelled-length = rw (length-take, length-drop) (omega (arith, s .within))
+
+  pub spelled-sound : sound t (sentence bytes e) ≡ length (sentence bytes e)
+  spelled-sound = sound-all t (sentence bytes e) (λ i h. s .symbol i (rw spelled-length at h))
+
+-- ---- the state in which a right entry's run ends
+walk-state : {B : Tables} {q a z n s : ℕ} {w : List ℕ} → InRange B → q < B .states → Walk B q a w z n s → s < B .states
+walk-state i h here = h
+walk-state i h (shifted {t} {q₁} {q₂} z r e) = i .shifts q₁ t q₂ e .3
+walk-state i h (crossed {q₁} {p} {q₃} r v e l g) = i .gotos q₁ _ q₃ g .2
+
+reached-state : {B : Tables} {w : List ℕ} {z s : ℕ} → InRange B → Reaches B w z s → s < B .states
+reached-state i r = walk-state i (i .start) (reaches-walk r .1)
+
+right-state : {d : Sizes} {cells bytes : List ℕ} {e : Entry} → Holds d cells → Spelled (d .t) bytes e
+    → isRight (length (sentence bytes e)) (runOf (tablesOf cells) bytes e) ≡ true → stateOf (runOf (tablesOf cells) bytes e) < d .s
+right-state {d} {cells} {bytes} {e} h s r = by-ending (runOf (tablesOf cells) bytes e) refl r
+  where
+    terminals : sound (tablesOf cells .terminals) (sentence bytes e) ≡ length (sentence bytes e)
+    terminals = rw (terminals-are h) (spelled-sound s)
+
+    by-ending : (x : Ending) → runOf (tablesOf cells) bytes e ≡ x → isRight (length (sentence bytes e)) x ≡ true → stateOf x < d .s
+    by-ending (Error stop) f g =
+        rw (states-are h) at
+        (reached-state (in-range h)
+        (run-error (tablesOf cells) (sentence bytes e) (e .lookahead) stop f (eqb-true _ _ g) (sound-terminals (tablesOf cells) (sentence bytes e) terminals) .0))
+    by-ending (Accepted stop) f g = absurd (false≢true g)
+    by-ending (Broken stop) f g = absurd (false≢true g)
+    by-ending (Passed stop) f g = absurd (false≢true g)
+    by-ending (Deep stop) f g = absurd (false≢true g)
+    by-ending (Spinning stop) f g = absurd (false≢true g)
+
+pub entry-right : {d : Sizes} {cells bytes : List ℕ} {e : Entry} → Holds d cells → Spelled (d .t) bytes e
+    → isRight (length (sentence bytes e)) (runOf (tablesOf cells) bytes e) ≡ true → stateOf (runOf (tablesOf cells) bytes e) < 128
+entry-right h s r = omega (arith, right-state h s r, h .small .states)
+
+-- ---- what a run answers and leaves
+delivered-ending : {r : Ending} {out : List ℕ} (lent : List ℕ) (o : Ending × List ℕ) → (Ended r, out) ≡ delivered lent o → r ≡ o .0
+delivered-ending {r} lent o e = let f : Ended r ≡ Ended (o .0) = ap (λ (x : Ran × List ℕ). x .0) e in cc
+
+delivered-rest : {r : Ending} {out : List ℕ} (lent : List ℕ) (o : Ending × List ℕ) → (Ended r, out) ≡ delivered lent o → length out ≡ length lent → 1024 ≤ length lent
+    → drop 1024 out ≡ drop 1024 lent
+delivered-rest {r} {out} lent (e, st) f same room = go (decLe (length st) 1024)
+  where
+    front : List ℕ
+    front = reverse st ++ replicate (1024 - length st) 0
+
+    front-length : length front ≡ length st + (1024 - length st)
+    front-length = simp (length-append, length-reverse, length-replicate)
+
+    is : out ≡ front ++ drop 1024 lent
+    is = ap (λ (x : Ran × List ℕ). x .1) f
+
+    size : length out ≡ length front + (length lent - 1024)
+    size = rw is (simp (length-append, length-drop))
+
+    go : Dec (length st ≤ 1024) → drop 1024 out ≡ drop 1024 lent
+    go (no h) = absurd (omega (arith, size, front-length))
+    go (yes h) = rw is (drop-at front (drop 1024 lent) 1024 (omega (arith, front-length)))
+
+-- ---- the run of an entry, whose symbols stand in the list from its start up to its end
+module _ {d : Sizes} {cells bytes : List ℕ} {e : Entry} (lent : List ℕ) (h : Holds d cells) (s : Spelled (d .t) bytes e) {x : Ending} {out : List ℕ}
+    (f : (Ended x, out) ≡ delivered lent (runs (tablesOf cells) (e .lookahead) (take (e .start + e .len - e .start) (drop (e .start) bytes)) 0 (0 ∷ []))) where
+  ran : (Ended x, out) ≡ delivered lent (runs (tablesOf cells) (e .lookahead) (sentence bytes e) 0 (0 ∷ []))
+  ran = let size : e .start + e .len - e .start ≡ e .len = omega arith in rw size at f
+
+  ending : x ≡ runOf (tablesOf cells) bytes e
+  ending = delivered-ending lent (runs (tablesOf cells) (e .lookahead) (sentence bytes e) 0 (0 ∷ [])) ran
+
+  pub ran-right : isRight (e .len) x ≡ true → stateOf x < 128
+  ran-right r =
+      let right : isRight (length (sentence bytes e)) (runOf (tablesOf cells) bytes e) ≡ true = ap₂ isRight (spelled-length s) (sym ending) ∙ r in
+      rw ending (entry-right h s right)
+
+  pub ran-verdict : (i : ℕ) (flags : List ℕ) (v : Verdict) → v ≡ weighed i (e .len) flags x
+      → v ≡ weighed i (length (sentence bytes e)) flags (runOf (tablesOf cells) bytes e)
+  ran-verdict i flags v w = w ∙ ap₂ (λ (n : ℕ) (y : Ending). weighed i n flags y) (sym (spelled-length s)) ending
+
+  pub ran-rest : length out ≡ length lent → 1024 ≤ length lent → drop 1024 out ≡ drop 1024 lent
+  ran-rest same room = delivered-rest lent (runs (tablesOf cells) (e .lookahead) (sentence bytes e) 0 (0 ∷ [])) ran same room

@@ -1,0 +1,120 @@
+-- The judgement of a list of sentences: the entries in turn, then the states without one; and what the call answers and leaves. Assumes nothing.
+use mathlib.Core.Bool.{Bool, true, false, cond, not, _&&_, _||_}
+use mathlib.Core.List.{List, [], _∷_}
+use mathlib.Core.Path.{_≡_}
+use Prim.Native.Nat.{ℕ, zero, suc, _<_}
+use lib.Dec.{ltb, eqb}
+use lib.ListN.{length, replicate}
+use Rattle.number.specs.Lent.{over}
+use Rattle.number.specs.declared.Refusal.{Refusal}
+use Rattle.book.specs.Tables.{Tables, tablesOf, sizesOf}
+use Rattle.book.specs.declared.Action.the-variants.{Error as Fail}
+use Rattle.book.specs.declared.Sizes.{Sizes}
+use Rattle.machine.specs.Machine.{Reaches}
+use Rattle.machine.specs.Run.{runs}
+use Rattle.machine.specs.declared.Ending.{Ending}
+use Rattle.machine.specs.declared.Ending.the-variants.{Accepted, Error, Broken, Passed, Deep, Spinning}
+use Rattle.lists.specs.Entry.{sentence}
+use Rattle.lists.specs.List.{Listed, entries, refused, listIn}
+use Rattle.lists.specs.declared.Entry.{Entry}
+use Rattle.finder.specs.Finder.{workCells, cleared}
+use Rattle.judgement.specs.declared.Judgement.{Judgement}
+use Rattle.judgement.specs.declared.Judgement.the-variants.{Wrong, Repeat, Uncovered, Complete, Refused}
+
+-- ---- an entry
+-- 'the entry's run', under the limits of a run; its sentence is 'that part of the list's own bytes'
+abbrev pub runOf : Tables → List ℕ → Entry → Ending
+runOf B bytes e = runs B (e .lookahead) (sentence bytes e) 0 (0 ∷ []) .0
+
+-- 'wrong if the entry's run does not end as error with its whole sentence in': so many symbols
+abbrev pub isRight : ℕ → Ending → Bool
+isRight len (Error stop) = eqb (stop .taken) len
+isRight len (Accepted stop) = false
+isRight len (Broken stop) = false
+isRight len (Passed stop) = false
+isRight len (Deep stop) = false
+isRight len (Spinning stop) = false
+
+-- the state that a run 'ends in'
+abbrev pub stateOf : Ending → ℕ
+stateOf (Error stop) = stop .state
+stateOf (Accepted stop) = stop .state
+stateOf (Broken stop) = stop .state
+stateOf (Passed stop) = stop .state
+stateOf (Deep stop) = stop .state
+stateOf (Spinning stop) = stop .state
+
+abbrev pub among : ℕ → List ℕ → Bool
+among s [] = false
+among s (q ∷ states) = eqb s q || among s states
+
+-- ---- the entries in turn
+-- a fault, or none, with the states that have an entry
+pub data Course : Type 0 where
+  fault : Judgement → Course
+  clean : List ℕ → Course
+
+-- the entry of index i, whose run ended so, after entries that ended in these states; what follows it, where it has no fault. 'wrong ..,
+-- else repeat if it ends in the state of an earlier one'; 'A wrong entry's judgement carries the ending of its run'
+abbrev pub entered : ℕ → ℕ → List ℕ → Ending → (List ℕ → Course) → Course
+entered i len states ending onward =
+    cond (isRight len ending)
+    (cond (among (stateOf ending) states) (fault (Repeat i)) (onward (stateOf ending ∷ states)))
+    (fault (Wrong i ending))
+
+-- 'The judgement takes entries in turn and stops at the first fault, told with its entry's index from 0': from the entry of index i on
+unfoldable pub course : Tables → List ℕ → ℕ → List ℕ → List Entry → Course
+course B bytes i states [] = clean states
+course B bytes i states (e ∷ es) =
+    entered i (length (sentence bytes e)) states (runOf B bytes e) (λ more. course B bytes (suc i) more es)
+
+-- ---- the states
+-- 'A failing pair is a reached pair, long or not, whose action is error': a sequence of any length reaches it, without limits
+pub record FailingPair (B : Tables) (s z : ℕ) : Type 0 where
+  pub terminal : z < B .terminals
+  pub word : List ℕ
+  pub reached : Reaches B word z s
+  pub error : B .act s z ≡ Fail
+
+-- a state 'that has a failing pair'
+abbrev pub Fails : Tables → ℕ → Type 0
+Fails B s = (z : ℕ) × FailingPair B s z
+
+-- which states have one: every function that decides it has the same values
+pub record Decides (B : Tables) (fails : ℕ → Bool) : Type 0 where
+  pub some : (s : ℕ) → s < B .states → fails s ≡ true → Fails B s
+  pub none : (s : ℕ) → s < B .states → fails s ≡ false → ¬ Fails B s
+
+-- 'uncovered, with the lowest state' that lacks an entry, of k states from s on, 'or else complete'
+unfoldable pub lowest : (ℕ → Bool) → ℕ → ℕ → Judgement
+lowest lacks zero s = Complete
+lowest lacks (suc k) s = cond (lacks s) (Uncovered s) (lowest lacks k (suc s))
+
+-- '.. that has a failing pair and no entry'
+abbrev pub uncovered : (ℕ → Bool) → List ℕ → ℕ → Bool
+uncovered fails states s = fails s && not (among s states)
+
+-- the judgement of entries that took this course: the first fault; 'Without a fault it is uncovered .. or else complete'
+pub data Judged (B : Tables) (c : Course) : Judgement → Type 0 where
+  faulty : (j : Judgement) → c ≡ fault j → Judged B c j
+  faultless : (states : List ℕ) (fails : ℕ → Bool) → c ≡ clean states → Decides B fails → Judged B c (lowest (uncovered fails states) (B .states) 0)
+
+-- ---- the call
+-- 'Any other call that needs work or stack cells is lent at least as many as the finder or a run': '13 work or stack cells too few' after the
+-- refusals of the book and the list, the work cells first, at place 0
+unfoldable pub admits : ℕ → ℕ → Sizes → Listed → Listed
+admits work stack d (refused r) = refused r
+admits work stack d (entries es end) =
+    cond (ltb work (workCells d)) (refused (record { number = 13; place = 0 }))
+    (cond (ltb stack 1024) (refused (record { number = 13; place = 0 })) (entries es end))
+
+-- '.. and leaves that many zero'
+abbrev pub zeroed : List ℕ → List ℕ
+zeroed stack = over (replicate 1024 0) stack
+
+-- what `judge` answers and leaves in the work cells and in the stack cells. A refusal 'leaves all lent memory as it found it'
+pub data Judges (cells bytes work stack : List ℕ) : Judgement → List ℕ → List ℕ → Type 0 where
+  refuses : (r : Refusal) → admits (length work) (length stack) (sizesOf cells) (listIn cells bytes) ≡ refused r
+      → Judges cells bytes work stack (Refused r) work stack
+  judges : (es : List Entry) (end : ℕ) (j : Judgement) → admits (length work) (length stack) (sizesOf cells) (listIn cells bytes) ≡ entries es end
+      → Judged (tablesOf cells) (course (tablesOf cells) bytes 0 [] es) j → Judges cells bytes work stack j (cleared (sizesOf cells) work) (zeroed stack)

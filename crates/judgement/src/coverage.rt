@@ -1,0 +1,86 @@
+// Which states have a failing pair, and the lowest of them that has no entry.
+ghost use mathlib.Core.Path.{_≡_};
+ghost use Prim.Native.Nat.{_≤_, _<_};
+ghost use lib.ListN.{length};
+ghost use Rattle.book.specs.Tables.{tablesOf};
+ghost use Rattle.book.specs.TablesLaws.{Holds};
+ghost use Rattle.layers.specs.Crossing.{room};
+ghost use Rattle.crossings.specs.Crossings.{Beyond};
+ghost use Rattle.judgement.specs.Coverage.{failsAt, failsIn, lacksIn, Covered};
+ghost use Rattle.judgement.specs.Judgement.{lowest};
+use crate::Judgement;
+use book::Action;
+use book::Sizes;
+use crossings::crossings;
+use distances::from_start;
+use walk::UNREACHED;
+
+// Whether the pair is reached and its action is error.
+fn fails_at(cells: &[u16], d: Sizes, dist: &[u16; 4096], q: usize, z: usize) -> bool
+    requires { ⌜ Holds d (now cells) ⌝ }
+    requires { ⌜ (q < d .s) × (z < d .t) ⌝ }
+    ensures { λ r. ⌜ r ≡ failsAt (tablesOf (now (cells .entry))) (now (dist .entry)) q z ⌝ }
+{
+    match book::action_at(cells, d, q, z) {
+        Action::Error => dist[q * 32 + z] < UNREACHED,
+        Action::Accept => false,
+        Action::Shift(_) => false,
+        Action::Reduce(_) => false,
+    }
+}
+
+fn fails(cells: &[u16], d: Sizes, dist: &[u16; 4096], q: usize) -> bool
+    requires { ⌜ Holds d (now cells) ⌝ }
+    requires { ⌜ q < d .s ⌝ }
+    ensures { λ r. ⌜ r ≡ failsIn (tablesOf (now (cells .entry))) (now (dist .entry)) (d .t) q ⌝ }
+{
+    let t = d.t;
+    let mut z: usize = 0;
+    while z < t {
+        if fails_at(cells, d, dist, q, z) {
+            return true;
+        }
+        z += 1;
+    }
+    false
+}
+
+// Whether the state has a failing pair and no entry.
+fn lacks(cells: &[u16], d: Sizes, dist: &[u16; 4096], flags: &[u8; 128], q: usize) -> bool
+    requires { ⌜ Holds d (now cells) ⌝ }
+    requires { ⌜ q < d .s ⌝ }
+    ensures { λ r. ⌜ r ≡ lacksIn (failsIn (tablesOf (now (cells .entry))) (now (dist .entry)) (d .t)) (now (flags .entry)) q ⌝ }
+{
+    if flags[q] != 0 {
+        return false;
+    }
+    fails(cells, d, dist, q)
+}
+
+fn lowest_lacking(cells: &[u16], d: Sizes, dist: &[u16; 4096], flags: &[u8; 128]) -> Judgement
+    requires { ⌜ Holds d (now cells) ⌝ }
+    ensures { λ r. ⌜ r ≡ lowest (lacksIn (failsIn (tablesOf (now (cells .entry))) (now (dist .entry)) (d .t)) (now (flags .entry))) (d .s) 0 ⌝ }
+{
+    let s = d.s;
+    let mut q: usize = 0;
+    while q < s {
+        if lacks(cells, d, dist, flags, q) {
+            return Judgement::Uncovered(q as u16);
+        }
+        q += 1;
+    }
+    Judgement::Complete
+}
+
+// The judgement of a list without a fault, where the states of its entries are flagged.
+pub fn cover(cells: &[u16], d: Sizes, flags: &[u8; 128], work: &mut [u16]) -> Judgement
+    requires { ⌜ Holds d (now cells) ⌝ }
+    requires { ⌜ room d ≤ length (now work) ⌝ }
+    ensures { λ r. ⌜ Covered (tablesOf (now (cells .entry))) (now (flags .entry)) r ⌝ }
+    ensures { λ _. ⌜ Beyond (room d) (now (work .entry)) (now (work .exit)) ⌝ }
+{
+    crossings(cells, d, work);
+    let mut dist = [UNREACHED; 4096];
+    from_start(cells, d, work, &mut dist);
+    lowest_lacking(cells, d, &dist, flags)
+}

@@ -1,0 +1,82 @@
+// A whole list: the checks, the entries in turn, then the states without one.
+ghost use mathlib.Core.Path.{_≡_};
+ghost use Prim.Native.Nat.{_≤_};
+ghost use lib.ListN.{length, drop};
+ghost use Rattle.book.specs.Tables.{tablesOf};
+ghost use Rattle.book.specs.TablesLaws.{Holds};
+ghost use Rattle.layers.specs.Crossing.{room};
+ghost use Rattle.crossings.specs.Crossings.{Beyond};
+ghost use Rattle.judgement.specs.Judgement.{Judged, Judges};
+ghost use Rattle.judgement.specs.Turns.{Standing, courseAt};
+use crate::Faults;
+use crate::Judgement;
+use crate::admission::admit;
+use crate::coverage::cover;
+use crate::entries::judge_entries;
+use book::Checked;
+use book::Sizes;
+use finder::clear;
+use finder::work_cells;
+use lists::Listing;
+use machine::DEPTH;
+
+// The judgement of the entries that stand from an offset on.
+fn judge_from(
+    cells: &[u16],
+    d: Sizes,
+    list: &[u8],
+    first: usize,
+    count: usize,
+    work: &mut [u16],
+    stack: &mut [u16],
+) -> Judgement
+    requires { ⌜ Holds d (now cells) ⌝ }
+    requires { ⌜ Standing (d .t) (now list) first count ⌝ }
+    requires { ⌜ room d ≤ length (now work) ⌝ }
+    requires { ⌜ 1024 ≤ length (now stack) ⌝ }
+    ensures { λ r. ⌜ Judged (tablesOf (now (cells .entry))) (courseAt (tablesOf (now (cells .entry))) (d .t) (now (list .entry)) first count) r ⌝ }
+    ensures { λ _. ⌜ Beyond (room d) (now (work .entry)) (now (work .exit)) ⌝ }
+    ensures { λ _. ⌜ drop 1024 (now (stack .exit)) ≡ drop 1024 (now (stack .entry)) ⌝ }
+{
+    let mut flags = [0u8; 128];
+    match judge_entries(cells, d, list, first, count, &mut flags, stack) {
+        Faults::First(j) => j,
+        Faults::None => cover(cells, d, &flags, work),
+    }
+}
+
+// The judgement against a book that was checked.
+fn judge_against(
+    cells: &[u16],
+    d: Sizes,
+    list: &[u8],
+    work: &mut [u16],
+    stack: &mut [u16],
+) -> Judgement
+    requires { ⌜ Holds d (now cells) ⌝ }
+    ensures { λ r. ⌜ Judges (now (cells .entry)) (now (list .entry)) (now (work .entry)) (now (stack .entry)) r (now (work .exit)) (now (stack .exit)) ⌝ }
+{
+    match admit(cells, d, list, work.len(), stack.len()) {
+        Listing::Refused(r) => Judgement::Refused(r),
+        Listing::Entries(rest) => {
+            let first = rest.at;
+            let count = rest.left;
+            let found = judge_from(cells, d, list, first, count, work, stack);
+            let n = work_cells(d);
+            clear(work, n);
+            clear(stack, DEPTH);
+            found
+        }
+    }
+}
+
+// Judges a list against the book in the cells. Leaves the first T × T × S × (N + 8) work cells and the first 1,024 stack cells zero; or
+// refuses by the refusals of `check_list`, then 13 for the work cells, then 13 for the stack cells, and changes no cell.
+pub fn judge(cells: &[u16], list: &[u8], work: &mut [u16], stack: &mut [u16]) -> Judgement
+    ensures { λ r. ⌜ Judges (now (cells .entry)) (now (list .entry)) (now (work .entry)) (now (stack .entry)) r (now (work .exit)) (now (stack .exit)) ⌝ }
+{
+    match book::check(cells) {
+        Checked::Refused(r) => Judgement::Refused(r),
+        Checked::Valid(d) => judge_against(cells, d, list, work, stack),
+    }
+}
