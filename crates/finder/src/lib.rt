@@ -12,8 +12,6 @@ mod still;
 mod taking;
 mod whole_map;
 
-pub use admission::clear;
-pub use admission::work_cells;
 use number::Refusal;
 pub use one_pair::find;
 pub use reached::sets;
