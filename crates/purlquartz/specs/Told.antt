@@ -14,11 +14,14 @@ use Rattle.machine.specs.declared.Ran.the-variants.{Ended, Refused as Unrun}
 use Rattle.machine.specs.declared.Stop.{Stop}
 use Rattle.finder.specs.declared.Found.{Found}
 use Rattle.finder.specs.declared.Found.the-variants.{Unreached, Long, Sentence, Refused as Unsought}
-use Rattle.finder.specs.Finder.{Finds, Maps}
+use Rattle.finder.specs.Finder.{Finds, Maps, Gathers}
 use Rattle.lists.specs.declared.Listing.{Listing}
 use Rattle.lists.specs.declared.Listing.the-variants.{Entries, Refused as Unlisted}
 use Rattle.lists.specs.declared.Nth.{Nth}
 use Rattle.lists.specs.declared.Nth.the-variants.{Found as One, None, Refused as Unfound}
+use Rattle.judgement.specs.declared.Judgement.{Judgement}
+use Rattle.judgement.specs.declared.Judgement.the-variants.{Wrong, Repeat, Uncovered, Complete, Refused as Unjudged}
+use Rattle.judgement.specs.Judgement.{Judges}
 
 -- 'Where an answer is an enum, a definition gives this paper's number and values for each of its cases': six numbers, the kind first
 -- and then its values, 0 where there is none. Kind 0 is 'a refusal is a number and a place'
@@ -35,22 +38,30 @@ abbrev pub checked : Checked → List ℕ
 checked (Faulty r) = refusal r
 checked (Valid d) = 1 ∷ d .t ∷ d .n ∷ d .s ∷ d .p ∷ 0 ∷ []
 
--- 'with the top state, the symbol looked at and how many were taken in'
-abbrev pub stopped : ℕ → Stop → List ℕ
-stopped kind stop = kind ∷ stop .state ∷ stop .symbol ∷ stop .taken ∷ 0 ∷ 0 ∷ []
+-- 'It ends as accepted, error, broken, passed, deep or spinning': the kind
+abbrev pub kindOf : Ending → ℕ
+kindOf (Accepted stop) = 1
+kindOf (Error stop) = 2
+kindOf (Broken stop) = 3
+kindOf (Passed stop) = 4
+kindOf (Deep stop) = 5
+kindOf (Spinning stop) = 6
 
--- 'It ends as accepted, error, broken, passed, deep or spinning'
-abbrev pub ended : Ending → List ℕ
-ended (Accepted stop) = stopped 1 stop
-ended (Error stop) = stopped 2 stop
-ended (Broken stop) = stopped 3 stop
-ended (Passed stop) = stopped 4 stop
-ended (Deep stop) = stopped 5 stop
-ended (Spinning stop) = stopped 6 stop
+-- 'with the top state, the symbol looked at and how many were taken in'
+abbrev pub stopOf : Ending → Stop
+stopOf (Accepted stop) = stop
+stopOf (Error stop) = stop
+stopOf (Broken stop) = stop
+stopOf (Passed stop) = stop
+stopOf (Deep stop) = stop
+stopOf (Spinning stop) = stop
+
+abbrev pub ended : ℕ → Stop → List ℕ
+ended kind stop = kind ∷ stop .state ∷ stop .symbol ∷ stop .taken ∷ 0 ∷ 0 ∷ []
 
 abbrev pub ran : Ran → List ℕ
 ran (Unrun r) = refusal r
-ran (Ended e) = ended e
+ran (Ended e) = ended (kindOf e) (stopOf e)
 
 -- 'For one pair the finder answers unreached, long or else a sentence', told by its length
 abbrev pub found : Found → List ℕ
@@ -70,6 +81,17 @@ entry (Unfound r) = refusal r
 entry (One e) = 1 ∷ e .start ∷ e .len ∷ e .lookahead ∷ 0 ∷ 0 ∷ []
 entry None = 2 ∷ 0 ∷ 0 ∷ 0 ∷ 0 ∷ 0 ∷ []
 
+-- 'A wrong entry's judgement carries the ending of its run'
+abbrev pub wrong : ℕ → ℕ → Stop → List ℕ
+wrong i kind stop = 4 ∷ i ∷ kind ∷ stop .state ∷ stop .symbol ∷ stop .taken ∷ []
+
+abbrev pub judged : Judgement → List ℕ
+judged (Unjudged r) = refusal r
+judged Complete = 1 ∷ 0 ∷ 0 ∷ 0 ∷ 0 ∷ 0 ∷ []
+judged (Uncovered s) = 2 ∷ s ∷ 0 ∷ 0 ∷ 0 ∷ 0 ∷ []
+judged (Repeat i) = 3 ∷ i ∷ 0 ∷ 0 ∷ 0 ∷ 0 ∷ []
+judged (Wrong i e) = wrong i (kindOf e) (stopOf e)
+
 -- one pair: an answer that is right, and its numbers
 pub record FindTold (cells : List ℕ) (s z : ℕ) (work buffer answer worked left : List ℕ) : Type 0 where
   pub given : Found
@@ -81,3 +103,15 @@ pub record MapTold (cells work lent answer worked left : List ℕ) : Type 0 wher
   pub given : Written
   pub right : Maps cells work lent given worked left
   pub told : answer ≡ written given
+
+-- the sets: an answer that is right, and its numbers
+pub record SetsTold (cells work masks sizes answer worked masksLeft sizesLeft : List ℕ) : Type 0 where
+  pub given : Written
+  pub right : Gathers cells work masks sizes given worked masksLeft sizesLeft
+  pub told : answer ≡ written given
+
+-- the judgement: an answer that is right, and its numbers
+pub record JudgeTold (cells bytes work stack answer worked stackLeft : List ℕ) : Type 0 where
+  pub given : Judgement
+  pub right : Judges cells bytes work stack given worked stackLeft
+  pub told : answer ≡ judged given

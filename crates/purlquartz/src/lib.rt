@@ -11,6 +11,8 @@ pub use books::purlquartz_read;
 pub use books::purlquartz_write;
 pub use entries::purlquartz_check_list;
 pub use entries::purlquartz_entry;
+pub use entries::purlquartz_judge;
 pub use pairs::purlquartz_find;
 pub use pairs::purlquartz_map;
+pub use pairs::purlquartz_sets;
 pub use runs::purlquartz_run;

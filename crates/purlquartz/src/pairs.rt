@@ -1,5 +1,5 @@
-// What sequences reach: one pair, and the whole map.
-ghost use Rattle.purlquartz.specs.Told.{FindTold, MapTold};
+// What sequences reach: one pair, the whole map, the sets.
+ghost use Rattle.purlquartz.specs.Told.{FindTold, MapTold, SetsTold};
 use crate::told::tell_found;
 use crate::told::tell_written;
 
@@ -27,4 +27,17 @@ pub extern "C" fn purlquartz_map(
     ensures { λ _. ⌜ MapTold (now (cells .entry)) (now (work .entry)) (now (map .entry)) (now (answer .exit)) (now (work .exit)) (now (map .exit)) ⌝ }
 {
     *answer = tell_written(finder::map(cells, work, map));
+}
+
+#[no_mangle]
+pub extern "C" fn purlquartz_sets(
+    cells: &[u16],
+    work: &mut [u16],
+    masks: &mut [u32],
+    sizes: &mut [u32],
+    answer: &mut [u64; 6],
+)
+    ensures { λ _. ⌜ SetsTold (now (cells .entry)) (now (work .entry)) (now (masks .entry)) (now (sizes .entry)) (now (answer .exit)) (now (work .exit)) (now (masks .exit)) (now (sizes .exit)) ⌝ }
+{
+    *answer = tell_written(finder::sets(cells, work, masks, sizes));
 }

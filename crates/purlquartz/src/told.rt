@@ -1,9 +1,10 @@
 // The answers as six numbers.
 ghost use mathlib.Core.Path.{_≡_};
-ghost use Rattle.purlquartz.specs.Told.{refusal, written, checked, stopped, ended, ran, found, listed, entry};
+ghost use Rattle.purlquartz.specs.Told.{refusal, written, checked, kindOf, stopOf, ended, ran, found, listed, entry, wrong, judged};
 use book::Checked;
 use book::Written;
 use finder::Found;
+use judgement::Judgement;
 use lists::Listing;
 use lists::Nth;
 use machine::Ending;
@@ -35,8 +36,34 @@ pub fn tell_checked(c: Checked) -> [u64; 6]
     }
 }
 
-fn tell_stopped(kind: u64, stop: Stop) -> [u64; 6]
-    ensures { λ n. ⌜ n ≡ stopped kind stop ⌝ }
+fn kind_of(e: Ending) -> u64
+    ensures { λ k. ⌜ k ≡ kindOf e ⌝ }
+{
+    match e {
+        Ending::Accepted(_) => 1,
+        Ending::Error(_) => 2,
+        Ending::Broken(_) => 3,
+        Ending::Passed(_) => 4,
+        Ending::Deep(_) => 5,
+        Ending::Spinning(_) => 6,
+    }
+}
+
+fn stop_of(e: Ending) -> Stop
+    ensures { λ s. ⌜ s ≡ stopOf e ⌝ }
+{
+    match e {
+        Ending::Accepted(stop) => stop,
+        Ending::Error(stop) => stop,
+        Ending::Broken(stop) => stop,
+        Ending::Passed(stop) => stop,
+        Ending::Deep(stop) => stop,
+        Ending::Spinning(stop) => stop,
+    }
+}
+
+fn tell_ended(kind: u64, stop: Stop) -> [u64; 6]
+    ensures { λ n. ⌜ n ≡ ended kind stop ⌝ }
 {
     [
         kind,
@@ -48,25 +75,12 @@ fn tell_stopped(kind: u64, stop: Stop) -> [u64; 6]
     ]
 }
 
-fn tell_ended(e: Ending) -> [u64; 6]
-    ensures { λ n. ⌜ n ≡ ended e ⌝ }
-{
-    match e {
-        Ending::Accepted(stop) => tell_stopped(1, stop),
-        Ending::Error(stop) => tell_stopped(2, stop),
-        Ending::Broken(stop) => tell_stopped(3, stop),
-        Ending::Passed(stop) => tell_stopped(4, stop),
-        Ending::Deep(stop) => tell_stopped(5, stop),
-        Ending::Spinning(stop) => tell_stopped(6, stop),
-    }
-}
-
 pub fn tell_ran(r: Ran) -> [u64; 6]
     ensures { λ n. ⌜ n ≡ ran r ⌝ }
 {
     match r {
         Ran::Refused(refusal) => tell_refusal(refusal),
-        Ran::Ended(e) => tell_ended(e),
+        Ran::Ended(e) => tell_ended(kind_of(e), stop_of(e)),
     }
 }
 
@@ -97,5 +111,30 @@ pub fn tell_entry(e: Nth) -> [u64; 6]
         Nth::Refused(r) => tell_refusal(r),
         Nth::Found(e) => [1, e.start as u64, e.len as u64, e.lookahead as u64, 0, 0],
         Nth::None => [2, 0, 0, 0, 0, 0],
+    }
+}
+
+fn tell_wrong(i: usize, kind: u64, stop: Stop) -> [u64; 6]
+    ensures { λ n. ⌜ n ≡ wrong i kind stop ⌝ }
+{
+    [
+        4,
+        i as u64,
+        kind,
+        stop.state as u64,
+        stop.symbol as u64,
+        stop.taken as u64,
+    ]
+}
+
+pub fn tell_judged(j: Judgement) -> [u64; 6]
+    ensures { λ n. ⌜ n ≡ judged j ⌝ }
+{
+    match j {
+        Judgement::Refused(r) => tell_refusal(r),
+        Judgement::Complete => [1, 0, 0, 0, 0, 0],
+        Judgement::Uncovered(s) => [2, s as u64, 0, 0, 0, 0],
+        Judgement::Repeat(i) => [3, i as u64, 0, 0, 0, 0],
+        Judgement::Wrong(i, e) => tell_wrong(i, kind_of(e), stop_of(e)),
     }
 }
