@@ -25,6 +25,12 @@ pub record Goals (goals : List ℕ) : Type 0 where
   pub size : length goals ≡ 4096
   pub marks : (s z : ℕ) → s < 128 → z < 32 → (entryIn goals s z ≡ 0) ⊎ (entryIn goals s z ≡ unreached)
 
+-- the set of one pair
+pub record Single (s z : ℕ) (goals : List ℕ) : Type 0 where
+  pub size : length goals ≡ 4096
+  pub here : entryIn goals s z ≡ 0
+  pub elsewhere : (q a : ℕ) → q < 128 → a < 32 → (q ≡ s → a ≡ z → ⊥) → entryIn goals q a ≡ unreached
+
 pub record GoalIn (d : Sizes) (goals : List ℕ) (s z : ℕ) : Type 0 where
   pub state : s < 128
   pub terminal : z < d .t

@@ -5,3 +5,4 @@ pub mod PassLaws
 pub mod TableLaws
 pub mod StartLaws
 pub mod GoalLaws
+pub mod SingleLaws

@@ -1,4 +1,5 @@
-// Prints, for each book in standard input, the distances from the start to every pair, a line for each state.
+// Prints, for each book in standard input, the distances from the start to every pair, and from every pair to the last state under
+// terminal 0, a line for each state.
 mod map;
 mod say;
 

@@ -1,11 +1,14 @@
-// The map of a book.
+// The distances of a book.
 ghost use Prim.Native.Nat.{_≤_, _<_};
 ghost use Rattle.book.specs.TablesLaws.{Holds};
+ghost use Rattle.crossings.specs.Crossings.{CrossingTable};
 use crate::say;
 use book::Checked;
 use book::Sizes;
 use crossings::crossings;
 use distances::from_start;
+use distances::only;
+use distances::to_goal;
 
 // The lent cells.
 const ROOM: usize = 4096;
@@ -32,6 +35,19 @@ fn rows(dist: &[u16; 4096], t: usize, s: usize)
     }
 }
 
+// The distances to the last state under terminal 0.
+fn to_last(cells: &[u16], d: Sizes, table: &[u16])
+    requires { ⌜ Holds d (now cells) ⌝ }
+    requires { ⌜ CrossingTable d (now cells) (now table) ⌝ }
+{
+    let t = d.t;
+    let s = d.s;
+    let mut dist = [0u16; 4096];
+    only(s - 1, 0, &mut dist);
+    to_goal(cells, d, table, &mut dist);
+    rows(&dist, t, s);
+}
+
 fn map(cells: &[u16], d: Sizes)
     requires { ⌜ Holds d (now cells) ⌝ }
 {
@@ -47,6 +63,8 @@ fn map(cells: &[u16], d: Sizes)
     crossings(cells, d, &mut table);
     from_start(cells, d, &table, &mut dist);
     rows(&dist, t, s);
+    say::line(b"to the last");
+    to_last(cells, d, &table);
 }
 
 pub fn judge(cells: &[u16]) {

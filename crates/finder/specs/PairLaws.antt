@@ -3,10 +3,9 @@ use mathlib.Core.List.{List}
 use mathlib.Core.Logic.{_⊎_, inl, inr, ⊎-elim, _↔_}
 use mathlib.Core.Path.{_≡_, refl, sym, _∙_}
 use Prim.Native.Nat.{ℕ, _+_, _*_, _≤_, _<_, min}
-use native.Mathlib.Decide.{decLt, ℕ-discrete}
+use native.Mathlib.Decide.{decLt}
 use native.Mathlib.Omega.{arith}
-use lib.ListN.{length, getD, set, replicate, length-set, length-replicate, getD-replicate}
-use lib.Seq.{getD-set-same, getD-set-other}
+use lib.ListN.{length, getD}
 use Rattle.book.specs.Tables.{Tables, tablesOf}
 use Rattle.book.specs.TablesLaws.{InRange, Holds, in-range}
 use Rattle.book.specs.declared.Sizes.{Sizes}
@@ -21,7 +20,8 @@ use Rattle.layers.specs.Crossing.{claimIn}
 use Rattle.layers.specs.CrossingLaws.{terminals-are, states-are}
 use Rattle.crossings.specs.Crossings.{CrossingTable}
 use Rattle.distances.specs.TableLaws.{table-closed, table-witnessed}
-use Rattle.distances.specs.Distances.{Goals, GoalIn, GoalTable}
+use Rattle.distances.specs.Distances.{GoalIn, Single, GoalTable}
+use Rattle.distances.specs.SingleLaws.{one-of}
 use Rattle.walk.specs.Walk.{Walk, first}
 use Rattle.walk.specs.WalkLaws.{reaches-walk, walk-reaches, walk-terminal}
 use Rattle.finder.specs.ChoosingLaws.{OnePair, ToPair}
@@ -29,18 +29,7 @@ use Rattle.finder.specs.Choosing.{Chose}
 use Rattle.finder.specs.GoalLaws.{exact-least}
 use Rattle.finder.specs.Finder.{Answered}
 use Rattle.finder.specs.declared.Found.the-variants.{Unreached, Long as Far′, Sentence}
-use Rattle.finder.specs.Pair.{Single, Minimum}
-
--- a store into an array that is unreached everywhere
-pub single : (s z : ℕ) → s < 128 → z < 32 → Single s z (set (replicate 4096 unreached) (s * 32 + z) 0)
-unfolding entryIn
-single s z hs hz = record {
-  size = length-set (replicate 4096 unreached) (s * 32 + z) 0 ∙ length-replicate 4096 unreached;
-  here = getD-set-same (replicate 4096 unreached) (s * 32 + z) 0 0 (omega (arith, length-replicate {A = ℕ} 4096 unreached));
-  elsewhere = λ q a hq ha n.
-      getD-set-other (replicate 4096 unreached) (s * 32 + z) (q * 32 + a) 0 0 (λ e. n (omega (arith, e)) (omega (arith, e)))
-      ∙ getD-replicate 4096 (q * 32 + a) unreached 0 (omega arith);
-}
+use Rattle.finder.specs.Pair.{Minimum}
 
 -- ---- the least, one number after the other
 module _ {g : ℕ → ℕ} where
@@ -76,20 +65,6 @@ unfolding entryIn
 first-row to a = let same : 0 * 32 + a ≡ a = omega arith in rw same
 
 -- ---- the goal array of one pair
-one-of : (s z q a : ℕ) → ((q ≡ s) × (a ≡ z)) ⊎ (q ≡ s → a ≡ z → ⊥)
-one-of s z q a = go (ℕ-discrete q s) (ℕ-discrete a z)
-  where
-    go : Dec (q ≡ s) → Dec (a ≡ z) → ((q ≡ s) × (a ≡ z)) ⊎ (q ≡ s → a ≡ z → ⊥)
-    go (yes e) (yes f) = inl (e, f)
-    go (yes e) (no f) = inr (λ i j. f j)
-    go (no e) f = inr (λ i j. e i)
-
-pub single-goals : {s z : ℕ} {to : List ℕ} → Single s z to → Goals to
-single-goals {s} {z} {to} x = record {
-  size = x .size;
-  marks = λ q a hq ha. ⊎-elim (λ (e, f). inl (rw (e, f) (x .here))) (λ n. inr (x .elsewhere q a hq ha n)) (one-of s z q a);
-}
-
 module _ {d : Sizes} {cells goals dist : List ℕ} {s z : ℕ} (h : Holds d cells) (x : Single s z goals) (hs : s < d .s) (hz : z < d .t) (g : GoalTable d cells goals dist) where
   goal-pair : (q a : ℕ) → GoalIn d goals q a → OnePair s z q a
   goal-pair q a m = ⊎-elim (λ p. p) (λ n. absurd (omega (arith, m .mark, x .elsewhere q a (m .state) (omega (arith, m .terminal, h .small .terminals)) n))) (one-of s z q a)

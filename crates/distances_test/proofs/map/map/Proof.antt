@@ -1,7 +1,5 @@
 -- `distances_test::map::map` meets its contract. Assumes nothing.
 use native.Mathlib.Omega.{arith}
-use mathlib.Core.Path.{_≡_, refl, _∙_, sym}
-use Prim.Native.Nat.{ℕ, _+_, _*_, _-_, _≤_, _<_}
 use Rattle.crossings.specs.CrossingsLaws.{room-small}
 use borrow.Author.Needs.{needs}
 use Rattle.distances_test.proofs.map.map.Statement.{statement}
@@ -11,6 +9,7 @@ use Rattle.distances_test.proofs.map.map.Lts as lts
 use Rattle.crossings.proofs.crossings.Reads as crossings-reads
 use Rattle.distances.proofs.from_start.Reads as from-start-reads
 use Rattle.distances_test.proofs.map.rows.Reads as rows-reads
+use Rattle.distances_test.proofs.map.to_last.Reads as to-last-reads
 use Rattle.distances_test.proofs.say.line.Reads as line-reads
 
 mul-if1 : tie.Need-mul-if1
@@ -46,6 +45,18 @@ from-start-requires c κs = search needs
 rows-requires : tie.Need-rows-requires
 rows-requires c κs = search needs
 
+slice-aggregate-line-2 : tie.Need-slice-aggregate-line-2
+slice-aggregate-line-2 c = search needs
+
+line-requires-2 : tie.Need-line-requires-2
+line-requires-2 c κs = search needs
+
+slice-aggregate-to-last : tie.Need-slice-aggregate-to-last
+slice-aggregate-to-last c = search needs
+
+to-last-requires : tie.Need-to-last-requires
+to-last-requires c κs = search needs
+
 returns-2 : tie.Need-returns-2
 returns-2 c = search needs
 
@@ -64,4 +75,8 @@ map-spec =
     slice-aggregate-from-start
     from-start-requires
     rows-requires
+    slice-aggregate-line-2
+    line-requires-2
+    slice-aggregate-to-last
+    to-last-requires
     returns-2)

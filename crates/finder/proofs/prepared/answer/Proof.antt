@@ -1,7 +1,8 @@
 -- `finder::prepared::answer` meets its contract: the least cost to go from the start says which answer it is. Assumes nothing.
 use native.Mathlib.Omega.{arith}
 use Rattle.distances.specs.TableLaws.{table-quiet, table-closed, table-witnessed}
-use Rattle.finder.specs.PairLaws.{single-goals, pair-reached, to-pair, answered-unreached, answered-long, answered-sentence}
+use Rattle.distances.specs.SingleLaws.{single-goals}
+use Rattle.finder.specs.PairLaws.{pair-reached, to-pair, answered-unreached, answered-long, answered-sentence}
 use borrow.Author.Needs.{needs}
 use Rattle.finder.proofs.prepared.answer.Statement.{statement}
 use Rattle.finder.proofs.prepared.answer.Tie as tie
@@ -9,7 +10,7 @@ use Rattle.finder.proofs.prepared.answer.Reads as reads
 use Rattle.finder.proofs.prepared.answer.Lts as lts
 use Rattle.distances.proofs.to_goal.Reads as to-goal-reads
 use Rattle.finder.proofs.choosing.choose.Reads as choose-reads
-use Rattle.finder.proofs.pair.only.Reads as only-reads
+use Rattle.distances.proofs.only.Reads as only-reads
 use Rattle.finder.proofs.pair.shortest.Reads as shortest-reads
 
 only-requires : tie.Need-only-requires

@@ -1,10 +1,10 @@
--- `finder::pair::only` meets its contract. Assumes nothing.
-use Rattle.finder.specs.PairLaws.{single}
+-- `distances::pair::only` meets its contract. Assumes nothing.
+use Rattle.distances.specs.SingleLaws.{single}
 use borrow.Author.Needs.{needs}
-use Rattle.finder.proofs.pair.only.Statement.{statement}
-use Rattle.finder.proofs.pair.only.Tie as tie
-use Rattle.finder.proofs.pair.only.Reads as reads
-use Rattle.finder.proofs.pair.only.Lts as lts
+use Rattle.distances.proofs.pair.only.Statement.{statement}
+use Rattle.distances.proofs.pair.only.Tie as tie
+use Rattle.distances.proofs.pair.only.Reads as reads
+use Rattle.distances.proofs.pair.only.Lts as lts
 
 mul-to : tie.Need-mul-to
 mul-to c = search needs

@@ -1,0 +1,28 @@
+-- `distances_test::map::to_last` meets its contract. Assumes nothing.
+use Rattle.distances.specs.SingleLaws.{single-goals}
+use borrow.Author.Needs.{needs}
+use Rattle.distances_test.proofs.map.to_last.Statement.{statement}
+use Rattle.distances_test.proofs.map.to_last.Tie as tie
+use Rattle.distances_test.proofs.map.to_last.Reads as reads
+use Rattle.distances_test.proofs.map.to_last.Lts as lts
+use Rattle.distances.proofs.to_goal.Reads as to-goal-reads
+use Rattle.distances.proofs.only.Reads as only-reads
+use Rattle.distances_test.proofs.map.rows.Reads as rows-reads
+
+sub-only : tie.Need-sub-only
+sub-only c = search needs
+
+only-requires : tie.Need-only-requires
+only-requires c κs = search needs
+
+to-goal-requires : tie.Need-to-goal-requires
+to-goal-requires c κs = (c .before .before .before .before .before .pre .0, (c .before .before .before .before .before .pre .1, single-goals (c .before .only .ensures)))
+
+rows-requires : tie.Need-rows-requires
+rows-requires c κs = search needs
+
+returns : tie.Need-returns
+returns c = search needs
+
+pub to-last-spec : {M : Type 1} → statement M
+to-last-spec = tie.close (tie.spec sub-only only-requires to-goal-requires rows-requires returns)
