@@ -1,19 +1,18 @@
 -- Laws of choosing: the lowest symbol under which the stack completes keeps a shortest and first sentence in sight. Assumes nothing.
 use mathlib.Core.List.{List, [], _∷_, _++_, reverse, reverse-append}
 use mathlib.Core.Logic.{_⊎_, inl, inr}
-use mathlib.Core.Path.{_≡_, refl, sym, _∙_, ap, subst, subst₂}
-use Prim.Native.Nat.{ℕ, zero, suc, _+_, _*_, _-_, _≤_, _<_}
+use mathlib.Core.Path.{_≡_, refl, sym, _∙_, ap, subst₂}
+use Prim.Native.Nat.{ℕ, suc, _+_, _-_, _≤_, _<_}
 use native.Mathlib.Decide.{decLt, ℕ-discrete}
 use native.Mathlib.Omega.{arith}
-use lib.ListN.{length, getD, take, set, length-append, length-set}
+use lib.ListN.{length, getD, take, set, length-append}
 use lib.Seq.{take-suc}
-use Rattle.number.specs.Lent.{over}
-use Rattle.number.specs.LentLaws.{over-more, length-over}
+use Rattle.number.specs.LentLaws.{over-more}
 use Rattle.book.specs.Tables.{Tables}
 use Rattle.book.specs.TablesLaws.{InRange}
-use Rattle.machine.specs.Machine.{Steps, done, Reaches}
-use Rattle.walk.specs.Cost.{limit, unreached, Exact}
-use Rattle.walk.specs.Claims.{Claims, ClaimedGets, Closed, Witnessed, Least, Onward}
+use Rattle.machine.specs.Machine.{done, Reaches}
+use Rattle.walk.specs.Cost.{limit, Exact}
+use Rattle.walk.specs.Claims.{Claims, Closed, Witnessed, Least, Onward}
 use Rattle.walk.specs.ChoiceLaws.{Chosen, After, Within, chosen-none, chosen-next, chosen-some, chosen-ready, chosen-answer, within-terminal, within-claimed, after-more}
 use Rattle.walk.specs.ShiftLaws.{Ready}
 use Rattle.finder.specs.Choice.{Completing, LowestFrom}

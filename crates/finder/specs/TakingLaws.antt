@@ -1,26 +1,22 @@
 -- Laws of taking in a symbol: what the search finds, and what is pushed on it. Assumes nothing.
-use mathlib.Core.List.{List, [], _∷_, _++_, reverse, reverse-append}
-use mathlib.Core.Path.{_≡_, refl, sym, _∙_, ap, subst}
-use Prim.Native.Nat.{ℕ, suc, _+_, _-_, _≤_, _<_}
+use mathlib.Core.List.{List, [], _∷_, reverse, reverse-append}
+use mathlib.Core.Path.{_≡_, sym, _∙_, ap}
+use Prim.Native.Nat.{ℕ, _+_, _-_, _≤_, _<_}
 use native.Mathlib.Decide.{decLt, ℕ-discrete}
-use native.Mathlib.Nat.{le-refl}
 use native.Mathlib.Numerals.{add-one}
 use native.Mathlib.Omega.{arith}
-use lib.ListN.{length, getD, take, drop, set, length-set}
+use lib.ListN.{length, getD, take, set}
 use lib.Seq.{length-take-le, take-take, take-suc-set, getD-take, getD-set-same, getD-set-other}
 use Rattle.book.specs.Tables.{Tables}
 use Rattle.book.specs.TablesLaws.{InRange}
 use Rattle.machine.specs.Machine.{Steps, done, then}
 use Rattle.machine.specs.MachineLaws.{_⊕_}
-use Rattle.walk.specs.Claims.{Claims, Closed, Witnessed}
-use Rattle.walk.specs.ShiftLaws.{Ready}
-use Rattle.layers.specs.Layer.{entryIn}
-use Rattle.search.specs.Completes.{Completes}
+use Rattle.walk.specs.Claims.{Claims, Witnessed}
 use Rattle.search.specs.Search.{Reached, topOf}
 use Rattle.search.specs.SearchLaws.{top-is, reached-still}
-use Rattle.advance.specs.Nearest.{far, Nearest}
-use Rattle.advance.specs.Push.{stacked, Shifted, Advanced}
-use Rattle.finder.specs.AdvanceLaws.{Still, ready-completes, stands-state, plus-rest}
+use Rattle.advance.specs.Nearest.{far}
+use Rattle.advance.specs.Push.{stacked, Advanced}
+use Rattle.finder.specs.AdvanceLaws.{Still, stands-state, plus-rest}
 use Rattle.finder.specs.Taking.{Stacked, Taken}
 
 -- what the search at no cost has found: the part of the stack that is kept, and the state on it

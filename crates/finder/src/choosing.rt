@@ -1,11 +1,11 @@
 // The sentence, chosen symbol by symbol.
 ghost use mathlib.Core.Path.{_≡_};
-ghost use Prim.Native.Nat.{ℕ, _≤_, _<_};
+ghost use Prim.Native.Nat.{_≤_, _<_};
 ghost use lib.ListN.{length, getD};
 ghost use Rattle.book.specs.Tables.{tablesOf};
 ghost use Rattle.book.specs.TablesLaws.{Holds};
 ghost use Rattle.machine.specs.Machine.{Reaches};
-ghost use Rattle.walk.specs.Claims.{Closed, Witnessed, Least, Onward};
+ghost use Rattle.walk.specs.Claims.{Closed, Witnessed};
 ghost use Rattle.walk.specs.Cost.{limit, Exact};
 ghost use Rattle.layers.specs.Crossing.{room, claimIn, Quiet};
 ghost use Rattle.layers.specs.Layer.{entryIn};

@@ -1,5 +1,4 @@
 // The prepared form: the answer for one pair from an exact crossing table, which serves every pair of its book.
-ghost use mathlib.Core.Path.{_≡_};
 ghost use Prim.Native.Nat.{_≤_, _<_};
 ghost use lib.ListN.{length};
 ghost use Rattle.book.specs.Tables.{tablesOf};

@@ -1,6 +1,6 @@
 -- `finder::admission::admit_map` meets its contract: each test picks a case of `admitsMap`. Assumes nothing.
 use native.Mathlib.Omega.{arith}
-use borrow.Author.Tests.{lt-ltb, le-ltb, le-leb, lt-leb}
+use borrow.Author.Tests.{lt-ltb, le-ltb}
 use mathlib.Core.Path.{sym, _∙_}
 use Rattle.book.specs.TablesLaws.{valid-holds}
 use Rattle.finder.specs.Finder.{admitsMap}

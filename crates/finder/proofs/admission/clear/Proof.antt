@@ -8,7 +8,7 @@ use mathlib.Core.List.{_++_}
 use Prim.Native.Nat.{_-_, _≤_}
 use native.Mathlib.Nat.{le-antisymm}
 use borrow.Author.Fill.{fill-none, fill-more}
-use lib.ListN.{length, length-set, replicate, drop, length-replicate}
+use lib.ListN.{length, length-set, replicate, drop}
 use borrow.Author.Needs.{needs}
 use Rattle.finder.proofs.admission.clear.Statement.{statement}
 use Rattle.finder.proofs.admission.clear.Tie as tie

@@ -1,5 +1,4 @@
 -- `finder::choice::lowest` meets its contract: one symbol after the other is passed over. Assumes nothing.
-use native.Mathlib.Omega.{arith}
 use Prim.Native.Nat.{_-_}
 use Rattle.book.specs.Tables.{tablesOf}
 use Rattle.layers.specs.Crossing.{claimIn}

@@ -1,15 +1,8 @@
 -- `finder::rows::copy_row` meets its contract. Assumes nothing.
-use mathlib.Core.Path.{_≡_, _∙_}
-use lib.ListN.{length}
 use Rattle.finder.specs.RowsLaws.{Copied, copied-none, copied-more}
 use native.Mathlib.Omega.{arith}
-use mathlib.Core.Path.{_≡_, refl, sym, _∙_}
 use Prim.Native.Nat.{_-_, _≤_}
 use native.Mathlib.Nat.{le-antisymm}
-use native.Mathlib.Numerals.{add-one}
-use denote.Ref.{now}
-use lib.ListN.{length, length-set, length-drop, drop}
-use lib.Seq.{paste, paste-zero, paste-suc, getD-drop}
 use borrow.Author.Needs.{needs}
 use Rattle.finder.proofs.rows.copy_row.Statement.{statement}
 use Rattle.finder.proofs.rows.copy_row.Tie as tie
