@@ -1,14 +1,17 @@
 -- Laws that tie the finder's calls together: for each pair the map, the sets and the answer agree. Assumes nothing.
 use mathlib.Core.List.{List}
-use mathlib.Core.Bool.{true}
+use mathlib.Core.Bool.{Bool, true, false}
 use mathlib.Core.Logic.{_↔_, _≢_}
-use mathlib.Core.Path.{_≡_, refl, sym, _∙_}
+use mathlib.Core.Path.{_≡_, refl, sym, _∙_, ap}
 use Prim.Native.Nat.{ℕ, _+_, _*_, _<_}
+use native.Mathlib.Omega.{arith}
+use lib.Count.{ones}
 use lib.ListN.{getD}
+use lib.Seq.{ext-getD}
 use Rattle.book.specs.Tables.{Tables, tablesOf}
 use Rattle.book.specs.declared.Sizes.{Sizes}
-use Rattle.sets.specs.Set.{member}
-use Rattle.sets.specs.SetLaws.{set-member}
+use Rattle.sets.specs.Set.{setOf, member}
+use Rattle.sets.specs.SetLaws.{set-member, set-same, set-count}
 use Rattle.machine.specs.Machine.{Reaches}
 use Rattle.machine.specs.MachineLaws.{clash}
 use Rattle.walk.specs.CostLaws.{exact-one}
@@ -34,3 +37,26 @@ module _ {cells : List ℕ} {d : Sizes} {s z : ℕ} (o : Outcome) (hs : s < d .s
       let (some, all) = x .decides s z hs hz in
       let (told, sure) = answer-reached (tablesOf cells) s z o a in
       (λ e. told (some (sym bit ∙ e)), λ n. bit ∙ all (sure n))
+
+-- ---- at most one answer of the sets is right
+both : (a b : Bool) → (a ≡ true → b ≡ true) → (b ≡ true → a ≡ true) → a ≡ b
+both true b f g = sym (f refl)
+both false true f g = g refl
+both false false f g = refl
+
+module _ {cells : List ℕ} {d : Sizes} {masks sizes masks′ sizes′ : List ℕ} (x : IsSets cells d masks sizes) (y : IsSets cells d masks′ sizes′) where
+  same : (s : ℕ) → s < d .s → setOf (x .reached s) (d .t) ≡ setOf (y .reached s) (d .t)
+  same s h = set-same (x .reached s) (y .reached s) (d .t) (λ z l.
+      let (some, all) = x .decides s z h l in
+      let (some′, all′) = y .decides s z h l in
+      both (x .reached s z) (y .reached s z) (λ e. all′ (some e)) (λ e. all (some′ e)))
+
+  pub masks-one : masks ≡ masks′
+  masks-one = ext-getD 0 masks masks′ (x .many ∙ sym (y .many)) (λ s l.
+      let h : s < d .s = omega (arith, x .many) in
+      x .mask s h ∙ same s h ∙ sym (y .mask s h))
+
+  pub sizes-one : sizes ≡ sizes′
+  sizes-one = ext-getD 0 sizes sizes′ (x .beside ∙ sym (y .beside)) (λ s l.
+      let h : s < d .s = omega (arith, x .beside) in
+      x .size s h ∙ sym (set-count (x .reached s) (d .t)) ∙ ap ones (same s h) ∙ set-count (y .reached s) (d .t) ∙ sym (y .size s h))

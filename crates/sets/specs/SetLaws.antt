@@ -37,6 +37,12 @@ set-more P k = rw add-one (grown (P k))
     grown true = rw one-mul at (or-shifted-r 1 k (setOf P k) (set-below P k))
     grown false = rw zero-add
 
+-- sets of the same members are the same
+pub set-same : (P Q : ℕ → Bool) (k : ℕ) → ((z : ℕ) → z < k → P z ≡ Q z) → setOf P k ≡ setOf Q k
+unfolding setOf
+set-same P Q zero e = refl
+set-same P Q (suc k) e = ap₂ (λ (b : Bool) (n : ℕ). cond b (2 ^ k) 0 + n) (e k (omega arith)) (set-same P Q k (λ z h. e z (omega arith)))
+
 bit-count : (b : Bool) → ones (cond b 1 0) ≡ cond b 1 0
 unfolding ones
 bit-count true = refl
