@@ -1,6 +1,6 @@
 -- Laws of action cells. Assumes nothing.
 use mathlib.Core.Path.{_≡_, refl}
-use Prim.Native.Nat.{ℕ, zero, suc, _+_, _*_, _/_, _%_}
+use Prim.Native.Nat.{ℕ, zero, suc, _/_, _%_}
 use native.Mathlib.Omega.{arith}
 use Rattle.book.specs.Action.{actionOf, codeOf}
 use Rattle.book.specs.declared.Action.the-variants.{Shift, Reduce}

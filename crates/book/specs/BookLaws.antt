@@ -1,10 +1,9 @@
 -- Laws of the book as a whole: its verdict, part by part. Assumes nothing.
 use mathlib.Core.Path.{_≡_, refl, sym, _∙_, ap, ap₂}
-use mathlib.Core.Bool.{Bool, true, false, cond}
-use mathlib.Core.List.{List, [], _∷_, _++_, append-nil}
+use mathlib.Core.Bool.{cond}
+use mathlib.Core.List.{List, _++_}
 use Prim.Native.Nat.{ℕ, zero, suc, _+_, _≤_, _<_}
 use native.Mathlib.Decide.{decLe, decLt, ℕ-discrete}
-use native.Mathlib.Nat.{add-zero, add-suc, suc-add}
 use native.Mathlib.Numerals.{add-one}
 use native.Mathlib.Omega.{arith}
 use borrow.Author.Tests.{lt-ltb, le-ltb, le-leb, lt-leb, eq-eqb, ne-eqb}
@@ -20,7 +19,7 @@ use Rattle.number.specs.declared.Number.the-variants.{Value, Refused}
 use Rattle.number.specs.declared.Refusal.{Refusal}
 use Rattle.book.specs.Book.{cellAt, Row, read, refused, row, whole, bookIn, ofCells, checked, delivered}
 use Rattle.book.specs.Range.{lowest, highest, headNumber, headFault, bodyFault, bodyLength, Small}
-use Rattle.book.specs.RowLaws.{ends, Front, row-front, row-empty, row-length, row-clean, values, values-row, values-all}
+use Rattle.book.specs.RowLaws.{ends, row-front, row-empty, row-length, row-clean, values, values-row, values-all}
 use Rattle.book.specs.Tables.{sizesOf}
 use Rattle.book.specs.declared.Checked.{Checked}
 use Rattle.book.specs.declared.Checked.the-variants.{Valid, Refused as Faulty}

@@ -1,13 +1,13 @@
 -- Laws of the loops that decode a row into cells and encode cells into bytes. Assumes nothing.
 use mathlib.Core.Path.{_≡_, refl, sym, _∙_, ap}
 use mathlib.Core.List.{List, [], _∷_, _++_, append-assoc, append-nil}
-use Prim.Native.Nat.{ℕ, suc, _+_, _*_, _-_, _≤_, _<_}
+use Prim.Native.Nat.{ℕ, _+_, _*_, _-_, _≤_, _<_}
 use native.Mathlib.Numerals.{add-one}
 use native.Mathlib.Omega.{arith}
 use lib.ListN.{length, getD, take, drop, set, length-append, take-append-drop}
 use lib.Seq.{sets, take-suc, take-all}
 use Rattle.number.specs.Lent.{over}
-use Rattle.number.specs.LentLaws.{length-over, over-more}
+use Rattle.number.specs.LentLaws.{over-more}
 use Rattle.number.specs.Number.{written}
 use Rattle.number.specs.NumberLaws.{written-most}
 use Rattle.number.specs.declared.Cursor.{Cursor}

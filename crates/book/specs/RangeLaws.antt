@@ -1,6 +1,5 @@
 -- Laws of the ranges. Assumes nothing.
-use Prim.Native.Nat.{ℕ, _+_, _*_, _≤_}
-use native.Mathlib.Omega.{arith}
+use Prim.Native.Nat.{_*_, _≤_}
 use Rattle.book.specs.IndexLaws.{mul-small}
 use Rattle.book.specs.Range.{Small}
 use Rattle.book.specs.declared.Sizes.{Sizes}

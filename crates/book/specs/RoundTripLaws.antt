@@ -1,23 +1,22 @@
 -- Reading and writing a book undo each other. Assumes nothing.
-use mathlib.Core.Path.{_≡_, refl, sym, _∙_, ap, ap₂}
+use mathlib.Core.Path.{_≡_, refl, sym, _∙_}
 use mathlib.Core.List.{List, [], _∷_, _++_, append-assoc, append-nil, nil≢cons}
 use Prim.Native.Nat.{ℕ, zero, suc, _+_, _≤_, _<_}
 use native.Mathlib.Nat.{add-assoc, add-zero, zero-add}
 use native.Mathlib.Numerals.{add-one}
 use native.Mathlib.Omega.{arith}
 use borrow.Author.Tests.{lt-ltb, le-ltb, eq-eqb}
-use lib.ListN.{length, getD, drop, length-append, length-drop, drop-of-length-le}
+use lib.ListN.{length, getD, drop, length-append, drop-of-length-le}
 use lib.Seq.{drop-cons, drop-drop, drop-append-seam, getD-drop}
-use Rattle.number.specs.Number.{numberAt, written, value, first}
-use Rattle.number.specs.NumberLaws.{Bytes, Stands, first-written, first-stands, value-is}
+use Rattle.number.specs.Number.{numberAt, written, first}
+use Rattle.number.specs.NumberLaws.{Bytes, first-written, first-stands}
 use Rattle.number.specs.declared.Cursor.{Cursor}
 use Rattle.number.specs.declared.Number.{Number}
 use Rattle.number.specs.declared.Number.the-variants.{Value}
-use Rattle.book.specs.Book.{cellAt, Row, read, row, before, bookIn, ofBytes, ofCells, bytesOf}
-use Rattle.book.specs.BookLaws.{Whole, book-whole, Part, cells-row}
-use Rattle.book.specs.BytesLaws.{bytes-append}
+use Rattle.book.specs.Book.{cellAt, read, row, bookIn, ofBytes, ofCells, bytesOf}
+use Rattle.book.specs.BookLaws.{book-whole}
 use Rattle.book.specs.Range.{headFault, bodyFault, bodyLength}
-use Rattle.book.specs.RowLaws.{Front, row-front, row-empty}
+use Rattle.book.specs.RowLaws.{row-front, row-empty}
 use Rattle.book.specs.Tables.{sizesOf}
 
 -- the elements of a slice of cells

@@ -1,25 +1,25 @@
 -- Laws of the tables: what holds of every valid list of cells, and of the tables that it holds. Assumes nothing.
-use mathlib.Core.Bool.{Bool, true, false, cond, not, _&&_, and-false, false≢true}
+use mathlib.Core.Bool.{Bool, true, false, cond, _&&_, and-false, false≢true}
 use mathlib.Core.List.{List}
 use mathlib.Core.Logic.{_≢_}
-use mathlib.Core.Path.{_≡_, refl, sym, _∙_, ap}
+use mathlib.Core.Path.{_≡_, refl, sym, _∙_}
 use Prim.Native.Nat.{ℕ, suc, _+_, _*_, _-_, _%_, _≤_, _<_}
 use native.Mathlib.Decide.{decLt, ℕ-discrete}
 use native.Mathlib.Nat.{zero-add, mul-add-mod-self-right, mod-eq-of-lt}
 use native.Mathlib.Omega.{arith}
-use borrow.Author.Tests.{lt-ltb, le-ltb, eq-eqb, ne-eqb, ltb-true, leb-true, eqb-true, eqb-false}
-use lib.Dec.{ltb, leb, eqb}
-use lib.ListN.{length, getD, take, drop}
+use borrow.Author.Tests.{lt-ltb, le-ltb, eq-eqb, ne-eqb, ltb-true, leb-true}
+use lib.Dec.{ltb}
+use lib.ListN.{length, getD, drop}
 use lib.Seq.{getD-drop, getD-take}
 use Rattle.book.specs.Action.{actionOf}
 use Rattle.book.specs.Book.{cellAt, read, row, ofCells, bookIn, checked}
-use Rattle.book.specs.BookLaws.{Whole, book-whole, cells-row, cells-valid, checked-valid, whole-small, whole-count, whole-sizes}
+use Rattle.book.specs.BookLaws.{book-whole, cells-row, cells-valid, checked-valid, whole-small, whole-count, whole-sizes}
 use Rattle.book.specs.IndexLaws.{index-below}
 use Rattle.book.specs.Range.{allowed, fits, headFault, bodyFault, bodyLength, unless, Small}
 use Rattle.book.specs.RowLaws.{row-clean}
 use Rattle.book.specs.Tables.{Tables, sizesOf, tablesOf, actionAt, gotoAt}
 use Rattle.book.specs.declared.Action.{Action}
-use Rattle.book.specs.declared.Action.the-variants.{Error, Accept, Shift, Reduce}
+use Rattle.book.specs.declared.Action.the-variants.{Error, Shift, Reduce}
 use Rattle.book.specs.declared.Checked.the-variants.{Valid}
 use Rattle.book.specs.declared.Sizes.{Sizes}
 

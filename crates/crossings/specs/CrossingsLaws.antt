@@ -1,7 +1,7 @@
 -- Laws of the crossing table: the layers from one (q, a), what a pass that lowers nothing shows, and that the table is then exact. Assumes nothing.
 use mathlib.Core.List.{List, []}
 use mathlib.Core.Logic.{_⊎_, inl, inr}
-use mathlib.Core.Path.{_≡_, refl, sym, _∙_}
+use mathlib.Core.Path.{_≡_, refl, _∙_}
 use Prim.Native.Nat.{ℕ, zero, suc, _+_, _*_, _≤_, _<_, max}
 use native.Mathlib.Decide.{ℕ-discrete}
 use native.Mathlib.Nat.{le-trans}
@@ -13,22 +13,21 @@ use Rattle.book.specs.IndexLaws.{mul-small}
 use Rattle.book.specs.Range.{Small}
 use Rattle.book.specs.Tables.{Tables, tablesOf}
 use Rattle.book.specs.TablesLaws.{Holds, in-range, goto-some}
-use Rattle.book.specs.declared.Action.the-variants.{Reduce}
 use Rattle.book.specs.declared.Sizes.{Sizes}
 use Rattle.walk.specs.Walk.{Walk, here}
 use Rattle.walk.specs.WalkLaws.{Opens}
 use Rattle.walk.specs.Cost.{unreached, Attained, Exact}
 use Rattle.walk.specs.Claims.{Claims, Crosses, Claimed, Closed, Least}
 use Rattle.walk.specs.ClaimsLaws.{claimed-next, claimed-terminal, unopened-closed, claim-exact}
-use Rattle.walk.specs.Layers.{Layer, Longer}
+use Rattle.walk.specs.Layers.{Longer}
 use Rattle.walk.specs.LayersLaws.{layer-here, layer-elsewhere, layer-longer, walk-longer}
 use Rattle.layers.specs.ActionLaws.{reduce-below}
 use Rattle.layers.specs.Crossing.{room, crossingRow, claimIn}
 use Rattle.layers.specs.CrossingLaws.{terminals-are, states-are, crossing-row-below}
 use Rattle.layers.specs.Layer.{Begun, Lengthened}
-use Rattle.crossings.specs.Crossings.{CrossingTable, Beyond}
-use Rattle.crossings.specs.Pass.{Sound, Pass, Each, Reached, Settled, SettledLayer, Tried, ClosedAt, Longest, Standing, Filled}
-use Rattle.crossings.specs.PassLaws.{pass-none, pass-then, pass-map, beyond-join, beyond-none, beyond-set}
+use Rattle.crossings.specs.Crossings.{CrossingTable}
+use Rattle.crossings.specs.Pass.{Sound, Pass, Each, SettledLayer, Tried, ClosedAt, Longest, Standing, Filled}
+use Rattle.crossings.specs.PassLaws.{pass-then, pass-map, beyond-none}
 
 -- ---- clearing
 pub filled-none : {l : List ℕ} → Filled 0 l l

@@ -1,9 +1,9 @@
 -- Laws of reductions in a layer: what they lower stays witnessed, and where they lower nothing the claims bound them. Assumes nothing.
 use mathlib.Core.List.{List}
-use mathlib.Core.Logic.{_⊎_, inl, inr, ⊎-elim}
-use mathlib.Core.Path.{_≡_, refl, sym, _∙_}
+use mathlib.Core.Logic.{inl, inr}
+use mathlib.Core.Path.{_≡_}
 use Prim.Native.Nat.{ℕ, suc, _+_, _≤_, _<_}
-use native.Mathlib.Decide.{ℕ-discrete, decLt}
+use native.Mathlib.Decide.{ℕ-discrete}
 use native.Mathlib.Omega.{arith}
 use lib.ListN.{length, getD, set, length-set}
 use lib.Seq.{getD-set-same, getD-set-other}
@@ -15,12 +15,12 @@ use Rattle.book.specs.declared.Sizes.{Sizes}
 use Rattle.machine.specs.MachineLaws.{clash}
 use Rattle.walk.specs.Walk.{Walk}
 use Rattle.walk.specs.Cost.{unreached, Attained}
-use Rattle.walk.specs.Claims.{Claims, Crosses, Witnessed}
+use Rattle.walk.specs.Claims.{Crosses}
 use Rattle.walk.specs.ClaimsLaws.{attained-crossing, unopened-unreached}
-use Rattle.layers.specs.Crossing.{room, crossingRow, claimIn, Quiet}
+use Rattle.layers.specs.Crossing.{crossingRow, claimIn, Quiet}
 use Rattle.layers.specs.CrossingLaws.{terminals-are, crossing-row-below, crossing-one}
-use Rattle.crossings.specs.Pass.{Stored, kept, stored, Sound, Pass, Each, Settled}
-use Rattle.crossings.specs.PassLaws.{lowered-none, lowered-set, pass-none}
+use Rattle.crossings.specs.Pass.{Stored, kept, stored, Sound, Pass, Settled}
+use Rattle.crossings.specs.PassLaws.{lowered-set, pass-none}
 
 pub attained-most : {P : List ℕ → Type 0} {v : ℕ} → Attained P v → v ≤ unreached
 attained-most (inl e) = omega arith

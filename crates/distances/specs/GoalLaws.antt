@@ -4,7 +4,7 @@ use mathlib.Core.Logic.{_⊎_, inl, inr, ⊎-elim}
 use mathlib.Core.Path.{_≡_, refl, sym, _∙_}
 use Prim.Native.Nat.{ℕ, suc, _+_, _*_, _-_, _≤_, _<_, min}
 use native.Mathlib.Decide.{decLt, ℕ-discrete}
-use native.Mathlib.Nat.{le-trans, le-refl, le-of-eq}
+use native.Mathlib.Nat.{le-trans, le-of-eq}
 use native.Mathlib.Omega.{arith}
 use lib.ListN.{length, getD, set, length-set}
 use lib.Seq.{getD-set-same, getD-set-other}
@@ -13,9 +13,9 @@ use Rattle.book.specs.TablesLaws.{Holds, in-range, goto-some}
 use Rattle.book.specs.declared.Action.the-variants.{Shift}
 use Rattle.book.specs.declared.Sizes.{Sizes}
 use Rattle.walk.specs.WalkLaws.{Opens, shifts}
-use Rattle.walk.specs.Cost.{unreached, plus}
+use Rattle.walk.specs.Cost.{unreached}
 use Rattle.walk.specs.CostLaws.{plus-zero, plus-far-left, plus-far-right}
-use Rattle.walk.specs.Claims.{Claims, Claimed, Onward}
+use Rattle.walk.specs.Claims.{Claims, Onward}
 use Rattle.walk.specs.ClaimsLaws.{claimed-bounded, claimed-next, goal-exact}
 use Rattle.walk.specs.Layers.{Sooner, from-shift, from-goto, ToGoal}
 use Rattle.walk.specs.LayersLaws.{goal-least}

@@ -2,7 +2,7 @@
 use mathlib.Core.List.{List}
 use mathlib.Core.Logic.{_⊎_, inl, inr, ⊎-map}
 use mathlib.Core.Path.{_≡_, refl, sym, _∙_, subst}
-use Prim.Native.Nat.{ℕ, _+_, _*_, _≤_, _<_, max, min}
+use Prim.Native.Nat.{ℕ, _+_, _*_, _≤_, _<_, max}
 use native.Mathlib.Decide.{ℕ-discrete}
 use native.Mathlib.Nat.{le-antisymm, le-refl, le-trans}
 use native.Mathlib.Omega.{arith}
@@ -10,14 +10,13 @@ use lib.ListN.{length, getD, set, length-set}
 use lib.Seq.{set-getD}
 use Rattle.book.specs.Tables.{Tables}
 use Rattle.walk.specs.Cost.{unreached, plus}
-use Rattle.walk.specs.CostLaws.{plus-zero, zero-plus, plus-assoc, plus-far-right, plus-bounded}
-use Rattle.walk.specs.Claims.{Claims, Claimed, none}
+use Rattle.walk.specs.CostLaws.{plus-zero, zero-plus, plus-assoc, plus-far-right}
+use Rattle.walk.specs.Claims.{Claims, none}
 use Rattle.walk.specs.ClaimsLaws.{claimed-next, claimed-append, claimed-shift, claimed-goto}
 use Rattle.walk.specs.Layers.{Sooner, from-shift, from-goto}
-use Rattle.layers.specs.Layer.{entryIn}
-use Rattle.layers.specs.Step.{Step, Upto}
-use Rattle.layers.specs.StepLaws.{step-zero, step-more, step-done, step-least, step-none}
-use Rattle.crossings.specs.Pass.{total, Stored, kept, stored, Each}
+use Rattle.layers.specs.Step.{Upto}
+use Rattle.layers.specs.StepLaws.{step-zero, step-more, step-least, step-none}
+use Rattle.crossings.specs.Pass.{Stored, kept, stored, Each}
 use Rattle.crossings.specs.PassLaws.{total-set}
 use Rattle.distances.specs.Distances.{distanceIn}
 use Rattle.distances.specs.DistancesLaws.{distance-read, distance-same, distance-other}

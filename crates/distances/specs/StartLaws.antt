@@ -11,9 +11,9 @@ use Rattle.book.specs.Tables.{Tables, tablesOf}
 use Rattle.book.specs.TablesLaws.{Holds, InRange, in-range}
 use Rattle.book.specs.declared.Sizes.{Sizes}
 use Rattle.walk.specs.Cost.{unreached}
-use Rattle.walk.specs.Claims.{Claims, Claimed, none, Arrival}
+use Rattle.walk.specs.Claims.{Claims, none, Arrival}
 use Rattle.walk.specs.ClaimsLaws.{start-exact}
-use Rattle.walk.specs.Layers.{Longer, add-shift, add-goto, FromStart}
+use Rattle.walk.specs.Layers.{Longer, add-shift, add-goto}
 use Rattle.walk.specs.LayersLaws.{arrival-longer, start-least}
 use Rattle.layers.specs.Crossing.{claimIn}
 use Rattle.layers.specs.CrossingLaws.{terminals-are, states-are}

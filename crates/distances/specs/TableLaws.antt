@@ -1,15 +1,14 @@
 -- An exact crossing table is closed and witnessed. Assumes nothing.
 use mathlib.Core.List.{List}
-use mathlib.Core.Logic.{_⊎_, inl, inr}
+use mathlib.Core.Logic.{inl, inr}
 use mathlib.Core.Path.{_≡_}
 use Prim.Native.Nat.{ℕ, suc, _≤_, _<_}
 use native.Mathlib.Omega.{arith}
 use Rattle.book.specs.Tables.{tablesOf}
 use Rattle.book.specs.TablesLaws.{Holds, goto-some}
-use Rattle.book.specs.declared.Action.the-variants.{Reduce}
 use Rattle.book.specs.declared.Sizes.{Sizes}
-use Rattle.walk.specs.Cost.{unreached, Attained, Exact}
-use Rattle.walk.specs.Claims.{Crosses, Claimed, Closed, Witnessed}
+use Rattle.walk.specs.Cost.{Attained, Exact}
+use Rattle.walk.specs.Claims.{Crosses, Closed, Witnessed}
 use Rattle.walk.specs.ClaimsLaws.{claimed-next, claimed-terminal, witnessed-above, attained-crossing, unopened-unreached}
 use Rattle.layers.specs.Crossing.{claimIn, Quiet}
 use Rattle.layers.specs.CrossingLaws.{terminals-are}

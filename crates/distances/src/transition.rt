@@ -1,6 +1,5 @@
 // The least distance to a goal that one transition makes of those behind it.
 ghost use mathlib.Core.Logic.{_⊎_};
-ghost use mathlib.Core.Path.{_≡_};
 ghost use Prim.Native.Nat.{_+_, _≤_, _<_};
 ghost use lib.ListN.{length};
 ghost use Rattle.book.specs.Tables.{tablesOf};

@@ -1,23 +1,23 @@
 -- The search that finds where a symbol is shifted. Assumes nothing.
-use mathlib.Core.List.{List, [], _∷_, _++_}
-use mathlib.Core.Logic.{_⊎_, inl, inr, ⊎-elim}
-use mathlib.Core.Path.{_≡_, refl, sym, _∙_, ap}
-use Prim.Native.Nat.{ℕ, suc, _+_, _-_, _≤_, _<_}
+use mathlib.Core.List.{List, [], _∷_}
+use mathlib.Core.Logic.{_⊎_, ⊎-elim}
+use mathlib.Core.Path.{_≡_}
+use Prim.Native.Nat.{ℕ, _-_, _≤_, _<_}
 use native.Mathlib.Nat.{le-refl}
 use native.Mathlib.Omega.{arith}
 use lib.ListN.{length, getD, drop}
 use Rattle.book.specs.Tables.{Tables}
 use Rattle.book.specs.TablesLaws.{InRange}
-use Rattle.walk.specs.Cost.{unreached, cost, cap, plus}
+use Rattle.walk.specs.Cost.{plus}
 use Rattle.walk.specs.CostLaws.{plus-mono}
-use Rattle.walk.specs.Claims.{Claims, Claimed, ClaimedGets, arriving, popping, Closed, Witnessed}
+use Rattle.walk.specs.Claims.{Claims, ClaimedGets, arriving, popping, Closed, Witnessed}
 use Rattle.walk.specs.ClaimsLaws.{witnessed-above, closed-gets-below}
 use Rattle.walk.specs.ShiftLaws.{Ready}
 use Rattle.walk.specs.Walk.{Walk, here, shifted, crossed, first}
 use Rattle.machine.specs.Machine.{Steps}
 use Rattle.walk.specs.WalkLaws.{walk-first}
 use Rattle.search.specs.Completes.{Completes, stops, pops, Stands, top, falls}
-use Rattle.search.specs.CompletesLaws.{completes-stands-iff, sum-within, stands-still}
+use Rattle.search.specs.CompletesLaws.{sum-within, stands-still}
 use Rattle.advance.specs.Nearest.{far, Nearest, Shifts}
 use Rattle.advance.specs.NearestLaws.{nearest-least}
 

@@ -17,8 +17,7 @@ use Rattle.book.specs.declared.Written.the-variants.{Count, Refused as Unwritte
 use Rattle.book.specs.declared.Sizes.{Sizes}
 use Rattle.machine.specs.Machine.{Reaches}
 use Rattle.sets.specs.Set.{setOf, countOf}
-use Rattle.walk.specs.Answer.{Outcome, Answer}
-use Rattle.walk.specs.Answer.{Unreached as Never, Long as Far, Sentence as Word}
+use Rattle.walk.specs.Answer.{Outcome, Answer, Unreached as Never, Long as Far, Sentence as Word}
 use Rattle.walk.specs.Cost.{Exact}
 use Rattle.finder.specs.declared.Found.{Found}
 use Rattle.finder.specs.declared.Found.the-variants.{Unreached, Long, Sentence, Refused}

@@ -1,20 +1,19 @@
 -- Laws of one pair as a goal: the least cost to go from the start is the least length of the words that reach it. Assumes nothing.
 use mathlib.Core.List.{List}
 use mathlib.Core.Logic.{_⊎_, inl, inr, ⊎-elim, _↔_}
-use mathlib.Core.Path.{_≡_, refl, sym, _∙_}
+use mathlib.Core.Path.{_≡_, refl, _∙_}
 use Prim.Native.Nat.{ℕ, _+_, _*_, _≤_, _<_, min}
 use native.Mathlib.Decide.{decLt}
 use native.Mathlib.Omega.{arith}
-use lib.ListN.{length, getD}
+use lib.ListN.{getD}
 use Rattle.book.specs.Tables.{Tables, tablesOf}
 use Rattle.book.specs.TablesLaws.{InRange, Holds, in-range}
 use Rattle.book.specs.declared.Sizes.{Sizes}
 use Rattle.machine.specs.Machine.{Reaches}
 use Rattle.layers.specs.Layer.{entryIn}
-use Rattle.walk.specs.Cost.{long, unreached, cost, cap, Exact}
+use Rattle.walk.specs.Cost.{long, unreached, Exact}
 use Rattle.walk.specs.CostLaws.{exact-map}
-use Rattle.walk.specs.Answer.{Long, Answer}
-use Rattle.walk.specs.Answer.{Unreached as Never, Sentence as Word}
+use Rattle.walk.specs.Answer.{Long, Answer, Unreached as Never, Sentence as Word}
 use Rattle.walk.specs.AnswerLaws.{exact-unreached}
 use Rattle.layers.specs.Crossing.{claimIn}
 use Rattle.layers.specs.CrossingLaws.{terminals-are, states-are}

@@ -1,9 +1,8 @@
 -- Laws of actions: which production a reduction names, and where no walk begins. Assumes nothing.
 use mathlib.Core.Bool.{true}
 use mathlib.Core.List.{List}
-use mathlib.Core.Path.{_≡_, refl, _∙_}
+use mathlib.Core.Path.{_≡_}
 use Prim.Native.Nat.{ℕ, _<_}
-use native.Mathlib.Omega.{arith}
 use borrow.Author.Tests.{ltb-true}
 use Rattle.book.specs.Range.{allowed}
 use Rattle.book.specs.Tables.{Tables, tablesOf}

@@ -1,11 +1,11 @@
 -- Laws of the crossing table's index, and of the tables' sizes. Assumes nothing.
 use mathlib.Core.List.{List}
-use mathlib.Core.Path.{_≡_, refl, ap}
+use mathlib.Core.Path.{_≡_}
 use Prim.Native.Nat.{ℕ, _+_, _*_, _≤_, _<_}
 use native.Mathlib.Omega.{arith}
 use Rattle.book.specs.IndexLaws.{index-below, row-below, index-first, index-second, mul-small}
 use Rattle.book.specs.Range.{Small}
-use Rattle.book.specs.Tables.{tablesOf, sizesOf}
+use Rattle.book.specs.Tables.{tablesOf}
 use Rattle.book.specs.TablesLaws.{Holds, goto-most, goto-inside}
 use Rattle.book.specs.declared.Sizes.{Sizes}
 use Rattle.layers.specs.Crossing.{room, crossingRow}

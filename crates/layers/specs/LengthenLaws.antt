@@ -2,19 +2,17 @@
 use mathlib.Core.List.{List}
 use mathlib.Core.Logic.{_⊎_, inl, inr, ⊎-elim}
 use mathlib.Core.Path.{_≡_, refl, sym, _∙_}
-use Prim.Native.Nat.{ℕ, suc, _+_, _*_, _≤_, _<_}
+use Prim.Native.Nat.{ℕ, suc, _≤_, _<_}
 use native.Mathlib.Decide.{decLt}
 use native.Mathlib.Omega.{arith}
-use lib.ListN.{getD}
-use Rattle.book.specs.Range.{Small}
 use Rattle.book.specs.Tables.{Tables, tablesOf}
 use Rattle.book.specs.TablesLaws.{Holds, in-range, goto-some}
 use Rattle.book.specs.declared.Action.the-variants.{Shift}
 use Rattle.book.specs.declared.Sizes.{Sizes}
 use Rattle.walk.specs.WalkLaws.{Opens, shifts}
 use Rattle.walk.specs.Cost.{unreached, plus}
-use Rattle.walk.specs.CostLaws.{plus-far-left, plus-far-right, plus-bounded}
-use Rattle.walk.specs.Claims.{Claims, Least}
+use Rattle.walk.specs.CostLaws.{plus-far-left, plus-far-right}
+use Rattle.walk.specs.Claims.{Claims}
 use Rattle.walk.specs.Layers.{Longer, add-shift, add-goto}
 use Rattle.layers.specs.Layer.{entryIn, valueIn, Lengthened}
 use Rattle.layers.specs.LayerLaws.{TurnedOn}

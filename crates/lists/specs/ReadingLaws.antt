@@ -10,9 +10,8 @@ use Rattle.number.specs.Number.{numberAt}
 use Rattle.number.specs.declared.Cursor.{Cursor}
 use Rattle.number.specs.declared.Number.{Number}
 use Rattle.number.specs.declared.Number.the-variants.{Value, Refused}
-use Rattle.book.specs.Book.{Row, read, refused as unread, admitted, ofCells, checked}
+use Rattle.book.specs.Book.{Row, read, refused as unread, admitted, ofCells, checked, cellAt}
 use Rattle.book.specs.BookLaws.{readable}
-use Rattle.book.specs.Book.{cellAt}
 use Rattle.book.specs.Tables.{sizesOf}
 use Rattle.lists.specs.EntryLaws.{admitted-found, entry-wider}
 use Rattle.lists.specs.List.{Listed, entries, refused, entriesAt, closed, countFault, listOf, against, listIn, after, listing, nextAt}

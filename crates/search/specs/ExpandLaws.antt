@@ -2,13 +2,11 @@
 use mathlib.Core.List.{List}
 use mathlib.Core.Logic.{_⊎_, inl, inr, ⊎-elim}
 use mathlib.Core.Path.{_≡_, refl, sym, _∙_}
-use Prim.Native.Nat.{ℕ, _+_, _-_, _*_, _%_, _≤_, _<_, min, max}
-use native.Mathlib.Decide.{decLt, ℕ-discrete}
+use Prim.Native.Nat.{ℕ, _+_, _-_, _%_, _≤_, _<_, max}
+use native.Mathlib.Decide.{ℕ-discrete}
 use native.Mathlib.Nat.{le-refl, le-trans}
 use native.Mathlib.Numerals.{add-one}
 use native.Mathlib.Omega.{arith}
-use lib.ListN.{length, getD, set}
-use lib.Seq.{getD-set-same, getD-set-other}
 use Rattle.book.specs.Tables.{Tables, tablesOf}
 use Rattle.book.specs.TablesLaws.{Holds, in-range, act-some, left-side-below}
 use Rattle.book.specs.declared.Action.{Action}
@@ -23,7 +21,7 @@ use Rattle.walk.specs.ClaimsLaws.{claimed-next, claimed-terminal, Start, nowher
 use Rattle.walk.specs.Layers.{Layer, LayerWithin, cutAt}
 use Rattle.walk.specs.LayersLaws.{layer-here, layer-elsewhere, within-longer, within-cut}
 use Rattle.layers.specs.ActionLaws.{reduce-below}
-use Rattle.layers.specs.Layer.{entryIn, Begun, Lengthened}
+use Rattle.layers.specs.Layer.{Begun, Lengthened}
 use Rattle.layers.specs.Crossing.{Quiet}
 use Rattle.layers.specs.CrossingLaws.{terminals-are}
 use Rattle.layers.specs.Step.{Step, Upto}

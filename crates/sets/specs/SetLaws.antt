@@ -1,7 +1,7 @@
 -- Laws of sets: how they grow, which bits they have, and that the count of the bits is the number of members. Assumes nothing.
 use mathlib.Core.Bool.{Bool, true, false, cond}
 use mathlib.Core.Path.{_≡_, refl, sym, _∙_, ap, ap₂}
-use Prim.Native.Nat.{ℕ, zero, suc, _+_, _-_, _*_, _/_, _%_, _^_, _≤_, _<_}
+use Prim.Native.Nat.{ℕ, zero, suc, _+_, _-_, _*_, _/_, _%_, _^_, _<_}
 use native.Mathlib.Nat.{two-pow-succ, one-mul, zero-mul, zero-add, add-zero, add-comm, mul-comm, mul-assoc, suc-mul, pow-suc, div-add-mod', div-eq-of-lt, add-mul-div-right, add-mul-mod-self-right, mod-lt, not-suc-le-zero}
 use native.Mathlib.Numerals.{add-one}
 use native.Mathlib.Decide.{ℕ-discrete}

@@ -8,7 +8,7 @@ use native.Mathlib.Omega.{arith}
 use lib.ListN.{length, length-append}
 use Rattle.book.specs.Tables.{Tables}
 use Rattle.book.specs.TablesLaws.{InRange}
-use Rattle.machine.specs.Machine.{Steps, Terminals, none, more, Reaches}
+use Rattle.machine.specs.Machine.{Steps, Terminals, more, Reaches}
 use Rattle.machine.specs.MachineLaws.{_⊕_, taken-terminals}
 use Rattle.walk.specs.Cost.{limit, Exact}
 use Rattle.walk.specs.Order.{Before, differs, agrees, Better}

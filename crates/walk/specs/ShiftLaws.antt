@@ -1,15 +1,15 @@
 -- Before a symbol is taken in, the machine stands where it shifts it. Assumes nothing.
-use mathlib.Core.List.{List, [], _∷_, _++_}
-use mathlib.Core.Path.{_≡_, refl}
-use Prim.Native.Nat.{ℕ, suc, _≤_, _<_}
+use mathlib.Core.List.{List, [], _∷_}
+use mathlib.Core.Path.{_≡_}
+use Prim.Native.Nat.{ℕ, _≤_}
 use native.Mathlib.Omega.{arith}
 use lib.ListN.{length, length-append}
 use Rattle.book.specs.Tables.{Tables}
 use Rattle.book.specs.declared.Action.the-variants.{Shift}
-use Rattle.machine.specs.Machine.{next, shift, reduce, Steps, done, then}
+use Rattle.machine.specs.Machine.{shift, reduce, Steps, done, then}
 use Rattle.machine.specs.MachineLaws.{clash, next-shift, next-empty}
 use Rattle.walk.specs.Walk.{Gets, first}
-use Rattle.walk.specs.WalkLaws.{gets-runs, gets-starts, runs-gets}
+use Rattle.walk.specs.WalkLaws.{gets-runs, runs-gets}
 
 -- from the stack, without taking in anything, the machine brings a state on top that shifts x
 pub record Ready (B : Tables) (st : List ℕ) (x : ℕ) : Type 0 where

@@ -1,8 +1,7 @@
 -- `number::from_second` meets its contract: each test picks a case of `second`. Assumes nothing.
 use native.Mathlib.Nat.{add-assoc}
-use borrow.Author.Tests.{lt-ltb, le-ltb, le-leb, lt-leb, eq-eqb, ne-eqb}
+use borrow.Author.Tests.{lt-ltb, le-ltb, eq-eqb, ne-eqb}
 use lib.ListN.{drop-of-length-le}
-use native.Mathlib.Omega.{arith}
 use Rattle.number.specs.Number.{second}
 use Rattle.number.specs.NumberLaws.{byte-at}
 use borrow.Author.Needs.{needs}

@@ -2,7 +2,6 @@
 use borrow.Author.Needs.{needs}
 use borrow.Author.Tests.{lt-ltb, le-ltb, le-leb, lt-leb, eq-eqb, ne-eqb}
 use lib.ListN.{drop-of-length-le}
-use native.Mathlib.Omega.{arith}
 use Rattle.number.specs.Number.{third}
 use Rattle.number.specs.NumberLaws.{byte-at}
 use Rattle.number.proofs.from_third.Statement.{statement}

@@ -3,10 +3,6 @@ use mathlib.Core.Path.{ap, sym}
 use borrow.Author.Needs.{needs}
 use lib.ListN.{length}
 use Rattle.number.specs.NumberLaws.{written-one, written-two, written-three}
-use borrow.Author.Tests.{lt-ltb, le-ltb, le-leb, lt-leb, eq-eqb, ne-eqb}
-use lib.ListN.{drop-of-length-le}
-use native.Mathlib.Omega.{arith}
-use Rattle.number.specs.Number.{written}
 use Rattle.number.proofs.width.Statement.{statement}
 use Rattle.number.proofs.width.Tie as tie
 use Rattle.number.proofs.width.Reads as reads

@@ -1,5 +1,5 @@
 -- `number::write` meets its contract: in each branch the number is written in one, two or three bytes. Assumes nothing.
-use mathlib.Core.Path.{ap, sym}
+use mathlib.Core.Path.{ap}
 use native.Mathlib.Omega.{arith}
 use native.Mathlib.Numerals.{add-one, add-two}
 use lib.ListN.{length, length-set}

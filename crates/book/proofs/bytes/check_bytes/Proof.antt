@@ -1,5 +1,5 @@
 -- `book::bytes::check_bytes` meets its contract: the head, the numbers after it, and the end. Assumes nothing.
-use mathlib.Core.Path.{sym, _∙_, ap}
+use mathlib.Core.Path.{sym, _∙_}
 use native.Mathlib.Omega.{arith}
 use Rattle.book.specs.BookLaws.{head-small, checked-stop, checked-on}
 use Rattle.book.specs.RowLaws.{row-length}

@@ -1,8 +1,7 @@
 -- `book::bytes::head_row` meets its contract: the row is followed number by number, and each is kept. Assumes nothing.
 use native.Mathlib.Omega.{arith}
-use mathlib.Core.Path.{sym, _∙_}
+use mathlib.Core.Path.{sym, _∙_, _≡_}
 use Prim.Native.Nat.{_-_, _≤_}
-use mathlib.Core.Path.{_≡_}
 use lib.ListN.{length, length-set}
 use Rattle.number.specs.Number.{numberAt}
 use Rattle.book.specs.Range.{headFault}

@@ -1,6 +1,6 @@
 -- `book::bytes::read` meets its contract: what was checked is decoded. Assumes nothing.
 use denote.Ref.{now}
-use mathlib.Core.Path.{sym, _∙_, ap}
+use mathlib.Core.Path.{sym, _∙_}
 use native.Mathlib.Omega.{arith}
 use Rattle.book.specs.BookLaws.{readable, deliver-stop, deliver-short, deliver-whole, checked-faulty}
 use Rattle.book.specs.Book.{ofBytes, reading}

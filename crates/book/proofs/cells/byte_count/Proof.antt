@@ -1,10 +1,9 @@
 -- `book::cells::byte_count` meets its contract. Assumes nothing.
 use native.Mathlib.Omega.{arith}
-use Prim.Native.Nat.{_-_, _≤_}
-use mathlib.Core.Path.{_≡_, refl, sym, _∙_, ap}
+use Prim.Native.Nat.{_-_, _≤_, ℕ}
+use mathlib.Core.Path.{_≡_, refl, _∙_, ap}
 use lib.ListN.{length, take}
 use mathlib.Core.List.{List}
-use Prim.Native.Nat.{ℕ}
 use lib.Seq.{take-all}
 use Rattle.book.specs.Book.{bytesOf}
 use Rattle.book.specs.BytesLaws.{bytes-count, bytes-fit, bytes-most}

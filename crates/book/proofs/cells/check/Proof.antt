@@ -1,6 +1,5 @@
 -- `book::cells::check` meets its contract: the head, the numbers after it, and the end. Assumes nothing.
-use mathlib.Core.Path.{sym, _∙_, ap}
-use native.Mathlib.Omega.{arith}
+use mathlib.Core.Path.{sym, _∙_}
 use Rattle.book.specs.BookLaws.{cells-head, ends-refused, checked-stop, checked-cells}
 use Rattle.book.specs.Book.{ofCells}
 use borrow.Author.Needs.{needs}

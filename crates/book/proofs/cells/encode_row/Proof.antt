@@ -1,8 +1,8 @@
 -- `book::cells::encode_row` meets its contract: the cells are written one by one. Assumes nothing.
 use native.Mathlib.Omega.{arith}
 use Prim.Native.Nat.{_-_, _≤_}
-use mathlib.Core.Path.{_≡_, refl, sym, _∙_, ap}
-use lib.ListN.{length, take}
+use mathlib.Core.Path.{_≡_, _∙_}
+use lib.ListN.{length}
 use Rattle.book.specs.BytesLaws.{Encoded, encoded-none, encoded-fits, encoded-more, encoded-done}
 use borrow.Author.Needs.{needs}
 use Rattle.book.proofs.cells.encode_row.Statement.{statement}

@@ -1,6 +1,6 @@
 -- `book::cells::write` meets its contract: what was checked is encoded. Assumes nothing.
 use denote.Ref.{now}
-use mathlib.Core.Path.{sym, _∙_, ap}
+use mathlib.Core.Path.{sym, _∙_}
 use native.Mathlib.Omega.{arith}
 use Rattle.book.specs.BookLaws.{cells-valid, deliver-stop, deliver-short, deliver-whole, checked-faulty}
 use Rattle.book.specs.Book.{ofCells, bytesOf, writing}

@@ -1,6 +1,5 @@
 -- `book::range::action_allowed` meets its contract: each kind of action is a case of `allowed`. Assumes nothing.
-use borrow.Author.Tests.{lt-ltb, le-ltb, le-leb, lt-leb, eq-eqb, ne-eqb}
-use native.Mathlib.Omega.{arith}
+use borrow.Author.Tests.{eq-eqb, ne-eqb}
 use Rattle.book.specs.Range.{allowed}
 use borrow.Author.Needs.{needs}
 use Rattle.book.proofs.range.action_allowed.Statement.{statement}

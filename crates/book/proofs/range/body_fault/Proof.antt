@@ -1,6 +1,4 @@
 -- `book::range::body_fault` meets its contract. Assumes nothing.
-use borrow.Author.Tests.{lt-ltb, le-ltb, le-leb, lt-leb, eq-eqb, ne-eqb}
-use native.Mathlib.Omega.{arith}
 use Rattle.book.specs.Range.{bodyFault}
 use borrow.Author.Needs.{needs}
 use Rattle.book.proofs.range.body_fault.Statement.{statement}

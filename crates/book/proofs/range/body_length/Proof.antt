@@ -1,5 +1,4 @@
 -- `book::range::body_length` meets its contract. Assumes nothing.
-use borrow.Author.Tests.{lt-ltb, le-ltb, le-leb, lt-leb, eq-eqb, ne-eqb}
 use native.Mathlib.Omega.{arith}
 use Rattle.book.specs.RangeLaws.{actions-few, gotos-few}
 use borrow.Author.Needs.{needs}

@@ -1,6 +1,5 @@
 -- `book::range::head_fault` meets its contract: each test picks a case of `headFault`. Assumes nothing.
-use borrow.Author.Tests.{lt-ltb, le-ltb, le-leb, lt-leb, eq-eqb, ne-eqb}
-use native.Mathlib.Omega.{arith}
+use borrow.Author.Tests.{le-leb, lt-leb}
 use Rattle.book.specs.Range.{headFault}
 use borrow.Author.Needs.{needs}
 use Rattle.book.proofs.range.head_fault.Statement.{statement}

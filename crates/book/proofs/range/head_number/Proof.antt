@@ -1,6 +1,5 @@
 -- `book::range::head_number` meets its contract. Assumes nothing.
-use borrow.Author.Tests.{lt-ltb, le-ltb, le-leb, lt-leb, eq-eqb, ne-eqb}
-use native.Mathlib.Omega.{arith}
+use borrow.Author.Tests.{eq-eqb, ne-eqb}
 use Rattle.book.proofs.range.head_number.Statement.{statement}
 use Rattle.book.proofs.range.head_number.Tie as tie
 use Rattle.book.proofs.range.head_number.Reads as reads

@@ -1,8 +1,8 @@
 -- `book::range::in_range` meets its contract: each test picks a case of `fits`. Assumes nothing.
-use borrow.Author.Tests.{lt-ltb, le-ltb, le-leb, lt-leb, eq-eqb, ne-eqb}
+use borrow.Author.Tests.{lt-ltb, le-ltb, eq-eqb, ne-eqb}
 use native.Mathlib.Omega.{arith}
 use Rattle.book.specs.Range.{fits}
-use Rattle.book.specs.RangeLaws.{actions-few, gotos-few}
+use Rattle.book.specs.RangeLaws.{actions-few}
 use borrow.Author.Needs.{needs}
 use Rattle.book.proofs.range.in_range.Statement.{statement}
 use Rattle.book.proofs.range.in_range.Tie as tie

@@ -1,6 +1,6 @@
 -- `book::tables::action_at` meets its contract. Assumes nothing.
 use native.Mathlib.Omega.{arith}
-use mathlib.Core.Path.{sym, _∙_, refl}
+use mathlib.Core.Path.{sym, _∙_}
 use Rattle.book.specs.IndexLaws.{index-below}
 use Rattle.book.specs.TablesLaws.{act-inside}
 use borrow.Author.Needs.{needs}

@@ -1,6 +1,6 @@
 -- `book::tables::goto_at` meets its contract. Assumes nothing.
 use native.Mathlib.Omega.{arith}
-use mathlib.Core.Path.{sym, _∙_, refl}
+use mathlib.Core.Path.{sym}
 use Rattle.book.specs.IndexLaws.{index-below}
 use Rattle.book.specs.RangeLaws.{actions-few}
 use Rattle.book.specs.TablesLaws.{goto-inside}

@@ -1,7 +1,7 @@
 -- `crossings::crossing::cross_from` meets its contract. Assumes nothing.
 use native.Mathlib.Omega.{arith}
-use mathlib.Core.Path.{_≡_, refl, _∙_, sym}
-use Prim.Native.Nat.{ℕ, _+_, _*_, _-_, _≤_, _<_}
+use mathlib.Core.Path.{_≡_, _∙_}
+use Prim.Native.Nat.{ℕ, _-_, _≤_}
 use borrow.Author.Tests.{not-true}
 use lib.ListN.{length, length-replicate}
 use Rattle.book.specs.Tables.{tablesOf}

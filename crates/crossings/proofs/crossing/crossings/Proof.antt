@@ -1,8 +1,7 @@
 -- `crossings::crossing::crossings` meets its contract. Assumes nothing.
 use native.Mathlib.Omega.{arith}
-use mathlib.Core.Path.{_≡_, refl, _∙_, sym}
-use Prim.Native.Nat.{ℕ, _+_, _*_, _-_, _≤_, _<_}
-use Prim.Native.Nat.{min}
+use mathlib.Core.Path.{_≡_, _∙_}
+use Prim.Native.Nat.{_+_, _-_, min}
 use Rattle.book.specs.Tables.{tablesOf}
 use Rattle.walk.specs.Claims.{Closed}
 use Rattle.layers.specs.Crossing.{room, claimIn}
@@ -10,7 +9,6 @@ use Rattle.crossings.specs.Crossings.{Beyond}
 use Rattle.crossings.specs.Pass.{total, Sound}
 use Rattle.crossings.specs.PassLaws.{beyond-none, beyond-join}
 use Rattle.crossings.specs.CrossingsLaws.{room-small, sound-filled, closed-all, table-exact}
-use borrow.Author.Needs.{needs}
 use Rattle.crossings.proofs.crossing.crossings.Statement.{statement}
 use Rattle.crossings.proofs.crossing.crossings.Tie as tie
 use Rattle.crossings.proofs.crossing.crossings.Reads as reads

@@ -1,7 +1,6 @@
 -- `crossings::production::longer` meets its contract. Assumes nothing.
 use native.Mathlib.Omega.{arith}
-use mathlib.Core.Path.{_≡_, refl, _∙_, sym}
-use Prim.Native.Nat.{ℕ, _+_, _*_, _-_, _≤_, _<_}
+use Prim.Native.Nat.{_-_}
 use native.Mathlib.Nat.{le-refl}
 use Rattle.crossings.specs.ReductionLaws.{left-below}
 use borrow.Author.Needs.{needs}

@@ -1,7 +1,6 @@
 -- `crossings::production::longest` meets its contract. Assumes nothing.
 use native.Mathlib.Omega.{arith}
-use mathlib.Core.Path.{_≡_, refl, _∙_, sym}
-use Prim.Native.Nat.{ℕ, _+_, _*_, _-_, _≤_, _<_}
+use Prim.Native.Nat.{_-_, _≤_}
 use native.Mathlib.Nat.{le-antisymm}
 use Rattle.book.specs.Tables.{tablesOf}
 use Rattle.crossings.specs.Pass.{Longest}

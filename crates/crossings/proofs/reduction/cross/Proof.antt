@@ -1,7 +1,7 @@
 -- `crossings::reduction::cross` meets its contract. Assumes nothing.
 use native.Mathlib.Omega.{arith}
-use mathlib.Core.Path.{_≡_, refl, _∙_, sym}
-use Prim.Native.Nat.{ℕ, _+_, _*_, _-_, _≤_, _<_}
+use mathlib.Core.Path.{_∙_, sym}
+use Prim.Native.Nat.{_-_}
 use Rattle.layers.specs.CrossingLaws.{crossing-row-small, crossing-row-below}
 use Rattle.crossings.specs.PassLaws.{pass-none}
 use Rattle.crossings.specs.ReductionLaws.{left-below, reduced, settled-length, settled-goto}

@@ -1,7 +1,6 @@
 -- `crossings::reduction::reduce_at` meets its contract. Assumes nothing.
-use native.Mathlib.Omega.{arith}
-use mathlib.Core.Path.{_≡_, refl, _∙_, sym}
-use Prim.Native.Nat.{ℕ, _+_, _*_, _-_, _≤_, _<_}
+use mathlib.Core.Path.{_∙_, sym}
+use Prim.Native.Nat.{_-_}
 use Rattle.layers.specs.ActionLaws.{reduce-below}
 use Rattle.crossings.specs.PassLaws.{pass-none}
 use Rattle.crossings.specs.ReductionLaws.{settled-far, settled-error, settled-accept, settled-shift}

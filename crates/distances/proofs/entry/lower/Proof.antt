@@ -1,7 +1,5 @@
 -- `distances::entry::lower` meets its contract. Assumes nothing.
-use native.Mathlib.Omega.{arith}
-use mathlib.Core.Path.{_≡_, refl, _∙_, sym}
-use Prim.Native.Nat.{ℕ, _+_, _*_, _-_, _≤_, _<_}
+use Prim.Native.Nat.{_-_}
 use Rattle.crossings.specs.Pass.{kept, stored}
 use borrow.Author.Needs.{needs}
 use Rattle.distances.proofs.entry.lower.Statement.{statement}

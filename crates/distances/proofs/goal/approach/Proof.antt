@@ -1,7 +1,6 @@
 -- `distances::goal::approach` meets its contract. Assumes nothing.
 use native.Mathlib.Omega.{arith}
-use mathlib.Core.Path.{_≡_, refl, _∙_, sym}
-use Prim.Native.Nat.{ℕ, _+_, _*_, _-_, _≤_, _<_}
+use Prim.Native.Nat.{_-_}
 use borrow.Author.Tests.{not-true}
 use native.Mathlib.Nat.{le-trans}
 use Rattle.layers.specs.CrossingLaws.{terminals-are}

@@ -1,7 +1,6 @@
 -- `distances::goal::pass` meets its contract. Assumes nothing.
 use native.Mathlib.Omega.{arith}
-use mathlib.Core.Path.{_≡_, refl, _∙_, sym}
-use Prim.Native.Nat.{ℕ, _+_, _*_, _-_, _≤_, _<_}
+use Prim.Native.Nat.{_-_, _≤_}
 use Rattle.book.specs.Tables.{tablesOf}
 use Rattle.layers.specs.Crossing.{claimIn}
 use Rattle.crossings.specs.Pass.{Each}

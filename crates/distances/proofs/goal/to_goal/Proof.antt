@@ -1,8 +1,7 @@
 -- `distances::goal::to_goal` meets its contract. Assumes nothing.
 use native.Mathlib.Omega.{arith}
-use mathlib.Core.Path.{_≡_, refl, _∙_, sym}
-use Prim.Native.Nat.{ℕ, _+_, _*_, _-_, _≤_, _<_}
-use Prim.Native.Nat.{min}
+use mathlib.Core.Path.{_≡_}
+use Prim.Native.Nat.{ℕ, _+_, _-_, min}
 use lib.ListN.{length-replicate}
 use Rattle.book.specs.Tables.{tablesOf}
 use Rattle.layers.specs.Crossing.{claimIn}
@@ -13,7 +12,6 @@ use Rattle.distances.specs.Pass.{Drawn, Marked, Nearest}
 use Rattle.distances.specs.PassLaws.{drawn-same, drawn-join}
 use Rattle.distances.specs.TableLaws.{table-quiet}
 use Rattle.distances.specs.GoalLaws.{goals-bounded, nearest-back, goal-table}
-use borrow.Author.Needs.{needs}
 use Rattle.distances.proofs.goal.to_goal.Statement.{statement}
 use Rattle.distances.proofs.goal.to_goal.Tie as tie
 use Rattle.distances.proofs.goal.to_goal.Reads as reads

@@ -1,8 +1,7 @@
 -- `distances::start::from_start` meets its contract. Assumes nothing.
 use native.Mathlib.Omega.{arith}
-use mathlib.Core.Path.{_≡_, refl, _∙_, sym}
-use Prim.Native.Nat.{ℕ, _+_, _*_, _-_, _≤_, _<_}
-use Prim.Native.Nat.{min}
+use mathlib.Core.Path.{_≡_}
+use Prim.Native.Nat.{ℕ, _+_, _-_, min}
 use lib.ListN.{length, length-replicate}
 use Rattle.book.specs.Tables.{tablesOf}
 use Rattle.layers.specs.Crossing.{claimIn}
@@ -10,7 +9,6 @@ use Rattle.crossings.specs.Pass.{total}
 use Rattle.distances.specs.Pass.{Arrived}
 use Rattle.distances.specs.TableLaws.{table-quiet}
 use Rattle.distances.specs.StartLaws.{Settled, arrived-start, arrived-more, settled-more, start-table}
-use borrow.Author.Needs.{needs}
 use Rattle.distances.proofs.start.from_start.Statement.{statement}
 use Rattle.distances.proofs.start.from_start.Tie as tie
 use Rattle.distances.proofs.start.from_start.Reads as reads

@@ -1,7 +1,6 @@
 -- `distances::start::merge` meets its contract. Assumes nothing.
 use native.Mathlib.Omega.{arith}
-use mathlib.Core.Path.{_≡_, refl, _∙_, sym}
-use Prim.Native.Nat.{ℕ, _+_, _*_, _-_, _≤_, _<_}
+use Prim.Native.Nat.{_-_, _≤_}
 use Rattle.layers.specs.Layer.{valueIn}
 use Rattle.layers.specs.Step.{Upto}
 use Rattle.distances.specs.Pass.{Merged, Offer}

@@ -1,7 +1,7 @@
 -- `distances::start::merge_state` meets its contract. Assumes nothing.
 use native.Mathlib.Omega.{arith}
-use mathlib.Core.Path.{_≡_, refl, _∙_, sym}
-use Prim.Native.Nat.{ℕ, _+_, _*_, _-_, _≤_, _<_}
+use mathlib.Core.Path.{sym}
+use Prim.Native.Nat.{_-_, _≤_}
 use Rattle.layers.specs.Layer.{valueIn}
 use Rattle.layers.specs.LayerLaws.{value-off, value-read}
 use Rattle.layers.specs.Step.{Upto}

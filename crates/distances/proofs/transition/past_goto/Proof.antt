@@ -1,7 +1,7 @@
 -- `distances::transition::past_goto` meets its contract. Assumes nothing.
 use native.Mathlib.Omega.{arith}
-use mathlib.Core.Path.{_≡_, refl, _∙_, sym}
-use Prim.Native.Nat.{ℕ, _+_, _*_, _-_, _≤_, _<_}
+use mathlib.Core.Path.{refl}
+use Prim.Native.Nat.{_-_, _≤_}
 use Rattle.layers.specs.StepLaws.{step-zero, step-more, step-done}
 use Rattle.distances.specs.Distances.{distanceIn}
 use Rattle.distances.specs.DistancesLaws.{distance-read}

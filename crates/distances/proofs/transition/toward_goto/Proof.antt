@@ -1,7 +1,7 @@
 -- `distances::transition::toward_goto` meets its contract. Assumes nothing.
 use native.Mathlib.Omega.{arith}
-use mathlib.Core.Path.{_≡_, refl, _∙_, sym}
-use Prim.Native.Nat.{ℕ, _+_, _*_, _-_, _≤_, _<_}
+use mathlib.Core.Path.{_∙_, sym}
+use Prim.Native.Nat.{_-_}
 use Rattle.layers.specs.CrossingLaws.{goto-least, crossing-row-below}
 use Rattle.distances.specs.GoalLaws.{to-goto, to-no-goto}
 use borrow.Author.Needs.{needs}

@@ -1,7 +1,7 @@
 -- `distances::transition::toward_shift` meets its contract. Assumes nothing.
 use native.Mathlib.Omega.{arith}
-use mathlib.Core.Path.{_≡_, refl, _∙_, sym}
-use Prim.Native.Nat.{ℕ, _+_, _*_, _-_, _≤_, _<_}
+use mathlib.Core.Path.{_∙_, sym}
+use Prim.Native.Nat.{_-_}
 use Rattle.layers.specs.ActionLaws.{shift-below, error-shiftless, accept-shiftless, reduce-shiftless}
 use Rattle.distances.specs.GoalLaws.{to-shift, to-no-shift}
 use borrow.Author.Needs.{needs}

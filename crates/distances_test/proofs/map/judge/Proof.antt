@@ -1,7 +1,6 @@
 -- `distances_test::map::judge` meets its contract. Assumes nothing.
-use native.Mathlib.Omega.{arith}
-use mathlib.Core.Path.{_≡_, refl, _∙_, sym}
-use Prim.Native.Nat.{ℕ, _+_, _*_, _-_, _≤_, _<_}
+use mathlib.Core.Path.{_∙_, sym}
+use Prim.Native.Nat.{_-_}
 use Rattle.book.specs.TablesLaws.{valid-holds}
 use borrow.Author.Needs.{needs}
 use Rattle.distances_test.proofs.map.judge.Statement.{statement}

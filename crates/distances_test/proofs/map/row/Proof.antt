@@ -1,7 +1,5 @@
 -- `distances_test::map::row` meets its contract. Assumes nothing.
-use native.Mathlib.Omega.{arith}
-use mathlib.Core.Path.{_≡_, refl, _∙_, sym}
-use Prim.Native.Nat.{ℕ, _+_, _*_, _-_, _≤_, _<_}
+use Prim.Native.Nat.{_-_, _≤_}
 use borrow.Author.Needs.{needs}
 use Rattle.distances_test.proofs.map.row.Statement.{statement}
 use Rattle.distances_test.proofs.map.row.Tie as tie

@@ -1,12 +1,11 @@
 -- `finder::pair::shortest` meets its contract: one terminal after the other. Assumes nothing.
-use Rattle.finder.specs.PairLaws.{first-row}
+use Rattle.finder.specs.PairLaws.{first-row, minimum-one, minimum-more}
 use native.Mathlib.Omega.{arith}
 use native.Mathlib.Nat.{le-antisymm}
 use mathlib.Core.Path.{refl}
 use Prim.Native.Nat.{_-_, _≤_}
 use Rattle.layers.specs.Layer.{entryIn}
 use Rattle.finder.specs.Pair.{Minimum}
-use Rattle.finder.specs.PairLaws.{minimum-one, minimum-more}
 use borrow.Author.Needs.{needs}
 use Rattle.finder.proofs.pair.shortest.Statement.{statement}
 use Rattle.finder.proofs.pair.shortest.Tie as tie

@@ -2,7 +2,7 @@
 use lib.ListN.{length-set}
 use Rattle.advance.specs.NearestLaws.{near-low}
 use Rattle.finder.specs.AdvanceLaws.{ready-completes}
-use Rattle.finder.specs.TakingLaws.{placed-top}
+use Rattle.finder.specs.TakingLaws.{placed-top, part-states, spot, taking}
 use native.Mathlib.Omega.{arith}
 use mathlib.Core.Path.{sym, _∙_, subst}
 use Prim.Native.Nat.{ℕ}
@@ -13,7 +13,6 @@ use Rattle.book.specs.TablesLaws.{in-range}
 use Rattle.layers.specs.CrossingLaws.{states-are, terminals-are}
 use Rattle.finder.specs.StillLaws.{column-still}
 use Rattle.finder.specs.Taking.{Stacked}
-use Rattle.finder.specs.TakingLaws.{part-states, spot, taking}
 use borrow.Author.Needs.{needs}
 use Rattle.finder.proofs.taking.take_in.Statement.{statement}
 use Rattle.finder.proofs.taking.take_in.Tie as tie

@@ -1,7 +1,6 @@
 -- `judgement::entries::weigh` meets its contract: the tests pick a case of `weighed`. Assumes nothing.
 use borrow.Author.Tests.{eq-eqb, ne-eqb, not-true, not-false}
 use mathlib.Core.Path.{sym, _∙_}
-use borrow.Author.Tests.{eq-eqb, ne-eqb}
 use Rattle.judgement.specs.Turns.{weighed}
 use borrow.Author.Needs.{needs}
 use Rattle.judgement.proofs.entries.weigh.Statement.{statement}

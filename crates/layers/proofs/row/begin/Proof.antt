@@ -1,7 +1,5 @@
 -- `layers::row::begin` meets its contract. Assumes nothing.
-use native.Mathlib.Omega.{arith}
-use mathlib.Core.Path.{_≡_, refl, _∙_, sym}
-use Prim.Native.Nat.{ℕ, _+_, _*_, _-_, _≤_, _<_}
+use Prim.Native.Nat.{_-_}
 use lib.ListN.{length-set}
 use Rattle.layers.specs.LayerLaws.{begun}
 use borrow.Author.Needs.{needs}

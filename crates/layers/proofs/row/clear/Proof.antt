@@ -1,6 +1,5 @@
 -- `layers::row::clear` meets its contract. Assumes nothing.
 use native.Mathlib.Omega.{arith}
-use mathlib.Core.Path.{_≡_, refl, _∙_}
 use Prim.Native.Nat.{_*_, _-_, _≤_}
 use native.Mathlib.Nat.{le-antisymm}
 use Rattle.layers.specs.LayerLaws.{Cleared, cleared-none, cleared-more}

@@ -1,7 +1,7 @@
 -- `layers::row::level` meets its contract. Assumes nothing.
 use native.Mathlib.Omega.{arith}
-use mathlib.Core.Path.{_≡_, refl, _∙_}
-use Prim.Native.Nat.{_*_, _-_, _≤_}
+use mathlib.Core.Path.{_≡_, refl}
+use Prim.Native.Nat.{_-_, _≤_}
 use lib.ListN.{length, length-set}
 use Rattle.layers.specs.Layer.{entryIn}
 use Rattle.layers.specs.Step.{Step, Upto, Level}

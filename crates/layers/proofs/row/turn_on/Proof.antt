@@ -1,7 +1,7 @@
 -- `layers::row::turn_on` meets its contract. Assumes nothing.
 use native.Mathlib.Omega.{arith}
-use mathlib.Core.Path.{_≡_, refl, _∙_}
-use Prim.Native.Nat.{_*_, _-_, _≤_}
+use mathlib.Core.Path.{_∙_}
+use Prim.Native.Nat.{_-_}
 use lib.ListN.{length-set}
 use Rattle.layers.specs.LayerLaws.{on-already, on-cleared}
 use borrow.Author.Needs.{needs}

@@ -1,7 +1,6 @@
 -- `layers::transition::crossing_row` meets its contract. Assumes nothing.
 use native.Mathlib.Omega.{arith}
-use mathlib.Core.Path.{_≡_, refl, _∙_}
-use Prim.Native.Nat.{_*_, _-_, _≤_}
+use Prim.Native.Nat.{_-_}
 use Rattle.layers.specs.CrossingLaws.{crossing-row-small}
 use borrow.Author.Needs.{needs}
 use Rattle.layers.proofs.transition.crossing_row.Statement.{statement}

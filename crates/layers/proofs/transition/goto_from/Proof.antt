@@ -1,11 +1,8 @@
 -- `layers::transition::goto_from` meets its contract. Assumes nothing.
 use Rattle.layers.specs.Crossing.{claimIn}
-use mathlib.Core.Path.{_≡_, refl, _∙_, sym}
-use Prim.Native.Nat.{ℕ, _+_, _*_, _-_, _≤_, _<_}
+use mathlib.Core.Path.{_∙_, sym}
+use Prim.Native.Nat.{_-_}
 use native.Mathlib.Omega.{arith}
-use mathlib.Core.Path.{_≡_, refl, _∙_}
-use Prim.Native.Nat.{_*_, _-_, _≤_}
-use mathlib.Core.Path.{sym}
 use Rattle.layers.specs.CrossingLaws.{goto-least, crossing-row-below}
 use Rattle.layers.specs.LengthenLaws.{step-goto, step-no-goto}
 use borrow.Author.Needs.{needs}

@@ -1,9 +1,6 @@
 -- `layers::transition::gotos_from` meets its contract. Assumes nothing.
-use mathlib.Core.Path.{_≡_, refl, _∙_, sym}
-use Prim.Native.Nat.{ℕ, _+_, _*_, _-_, _≤_, _<_}
+use Prim.Native.Nat.{_-_, _≤_}
 use native.Mathlib.Omega.{arith}
-use mathlib.Core.Path.{_≡_, refl, _∙_}
-use Prim.Native.Nat.{_*_, _-_, _≤_}
 use Rattle.book.specs.Tables.{tablesOf}
 use Rattle.layers.specs.Layer.{Sized, valueIn}
 use Rattle.layers.specs.Crossing.{claimIn}

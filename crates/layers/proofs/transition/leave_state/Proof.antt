@@ -1,7 +1,7 @@
 -- `layers::transition::leave_state` meets its contract. Assumes nothing.
 use native.Mathlib.Omega.{arith}
 use Prim.Native.Nat.{_-_, _≤_}
-use Rattle.walk.specs.Cost.{cut, unreached}
+use Rattle.walk.specs.Cost.{cut}
 use Rattle.walk.specs.CostLaws.{cut-unreached}
 use Rattle.walk.specs.Layers.{cutAt}
 use Rattle.book.specs.Tables.{tablesOf}

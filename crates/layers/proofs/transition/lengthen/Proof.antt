@@ -1,7 +1,6 @@
 -- `layers::transition::lengthen` meets its contract: a cut at long leaves out nothing. Assumes nothing.
 use native.Mathlib.Omega.{arith}
 use Rattle.walk.specs.LayersLaws.{longer-whole}
-use borrow.Author.Needs.{needs}
 use Rattle.layers.proofs.transition.lengthen.Statement.{statement}
 use Rattle.layers.proofs.transition.lengthen.Tie as tie
 

@@ -1,8 +1,6 @@
 -- `layers::transition::opens` meets its contract. Assumes nothing.
-use native.Mathlib.Omega.{arith}
-use mathlib.Core.Path.{_≡_, refl, _∙_}
-use Prim.Native.Nat.{_*_, _-_, _≤_}
-use mathlib.Core.Path.{sym}
+use mathlib.Core.Path.{_∙_, sym}
+use Prim.Native.Nat.{_-_}
 use mathlib.Core.Bool.{false≢true}
 use borrow.Author.Tests.{eqb-false}
 use Rattle.layers.specs.ActionLaws.{reduce-below, reduce-unopened, error-unopened, accept-unopened}

@@ -1,10 +1,7 @@
 -- `layers::transition::shift_from` meets its contract. Assumes nothing.
-use mathlib.Core.Path.{_≡_, refl, _∙_, sym}
-use Prim.Native.Nat.{ℕ, _+_, _*_, _-_, _≤_, _<_}
+use mathlib.Core.Path.{_∙_, sym}
+use Prim.Native.Nat.{_-_}
 use native.Mathlib.Omega.{arith}
-use mathlib.Core.Path.{_≡_, refl, _∙_}
-use Prim.Native.Nat.{_*_, _-_, _≤_}
-use mathlib.Core.Path.{sym}
 use Rattle.layers.specs.ActionLaws.{shift-below, error-shiftless, accept-shiftless, reduce-shiftless}
 use Rattle.layers.specs.LengthenLaws.{step-shift, step-no-shift}
 use borrow.Author.Needs.{needs}

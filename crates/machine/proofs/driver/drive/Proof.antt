@@ -1,11 +1,10 @@
 -- `machine::driver::drive` meets its contract: symbol by symbol, the run goes on as from its start. Assumes nothing.
 use mathlib.Core.List.{[], _∷_}
-use lib.ListN.{length-set}
+use lib.ListN.{length-set, length}
 use Rattle.machine.specs.Run.{runs}
 use mathlib.Core.Path.{_≡_, _∙_}
 use Prim.Native.Nat.{_-_}
 use native.Mathlib.Omega.{arith}
-use lib.ListN.{length}
 use Rattle.book.specs.Tables.{tablesOf}
 use Rattle.machine.specs.AdmissionLaws.{sound-at}
 use Rattle.machine.specs.DrivingLaws.{Driving, driving-none, driving-more, driving-ended, driving-done, delivered-set}

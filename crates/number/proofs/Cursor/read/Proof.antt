@@ -1,7 +1,6 @@
 -- `number::Cursor::read` meets its contract: each test picks a case of `first`. Assumes nothing.
-use borrow.Author.Tests.{lt-ltb, le-ltb, le-leb, lt-leb, eq-eqb, ne-eqb}
+use borrow.Author.Tests.{lt-ltb, le-ltb}
 use lib.ListN.{drop-of-length-le}
-use native.Mathlib.Omega.{arith}
 use Rattle.number.specs.Number.{numberAt, first}
 use Rattle.number.specs.NumberLaws.{byte-at}
 use borrow.Author.Needs.{needs}
