@@ -10,6 +10,7 @@ use Rattle.finder.specs.Rows.{row}
 abbrev pub reachedIn : List ℕ → ℕ → ℕ → ℕ → Bool
 reachedIn dist t q = below (row dist t q) unreached
 
+-- the set of row q, and how many are in it
 abbrev pub maskIn : List ℕ → ℕ → ℕ → ℕ
 maskIn dist t q = setOf (reachedIn dist t q) t
 
