@@ -1,0 +1,129 @@
+//! What the calls answer.
+
+/// A map cell of a pair that some sequence reaches, but none of at most 1,000 symbols.
+pub const LONG: u16 = 1_001;
+/// A map cell of a pair that no sequence reaches.
+pub const UNREACHED: u16 = 1_002;
+/// The most symbols of a sentence, and the fewest bytes of a sentence buffer.
+pub const SENTENCE_BYTES: usize = 1_000;
+/// The fewest cells of a stack buffer.
+pub const STACK_CELLS: usize = 1_024;
+/// The most entries of a list.
+pub const LIST_ENTRIES: usize = 128;
+
+/// Why an input was refused, and where. A refused call has changed no lent memory.
+///
+/// | number | cause | place |
+/// |---|---|---|
+/// | 1 | a book or list stops before a due number is complete | where the missing number begins |
+/// | 2 | a number is padded, too wide, or over 65,535 | its first byte |
+/// | 3 | the form is not 1 | the number's offset or index |
+/// | 4 | T, N, S or P outside its range | the number's offset or index |
+/// | 5 | a left side, length, action or goto outside its range, a shift under terminal 0, or accept under another terminal | the number's offset or index |
+/// | 6 | something follows the last number | where it begins |
+/// | 7 | a symbol is 0, or T or more | the symbol's index; in a list, its offset |
+/// | 8 | a sentence has over 1,000 symbols | 0; in a list, the length's offset |
+/// | 9 | a list has over 128 entries | the count's offset |
+/// | 10 | the state is S or more | 0 |
+/// | 11 | the lookahead is T or more | 0; in a list, its offset |
+/// | 12 | an output is too short | 0 |
+/// | 13 | work or stack cells are too few | 0 |
+#[derive(Clone, Copy, Debug, PartialEq, Eq)]
+pub struct Refusal {
+    pub number: u16,
+    pub place: usize,
+}
+
+/// How many terminals, nonterminals, states and productions a book has.
+#[derive(Clone, Copy, Debug, PartialEq, Eq)]
+pub struct Sizes {
+    pub terminals: u16,
+    pub nonterminals: u16,
+    pub states: u16,
+    pub productions: u16,
+}
+
+impl Sizes {
+    /// The work cells that the finder needs: T × T × S × (N + 8).
+    pub fn work_cells(&self) -> usize {
+        let terminals = usize::from(self.terminals);
+        terminals * terminals * usize::from(self.states) * (usize::from(self.nonterminals) + 8)
+    }
+
+    /// The cells of the whole map: S × T.
+    pub fn map_cells(&self) -> usize {
+        usize::from(self.states) * usize::from(self.terminals)
+    }
+}
+
+/// Where a run ended: the top state, the symbol looked at, and how many symbols were taken in.
+#[derive(Clone, Copy, Debug, PartialEq, Eq)]
+pub struct Stop {
+    pub state: u16,
+    pub symbol: u16,
+    pub taken: u16,
+}
+
+/// How a run ended.
+#[derive(Clone, Copy, Debug, PartialEq, Eq)]
+pub enum Ending {
+    /// The machine accepted.
+    Accepted(Stop),
+    /// The action was error.
+    Error(Stop),
+    /// A reduction could not be done: too few states were stacked, or there was no goto.
+    Broken(Stop),
+    /// The whole sentence was taken in, and the lookahead would be shifted.
+    Passed(Stop),
+    /// A push would have made 1,025 states.
+    Deep(Stop),
+    /// 4,096 reductions were done since the last shift, and a further one could be done.
+    Spinning(Stop),
+}
+
+/// What the finder says of one pair.
+#[derive(Clone, Copy, Debug, PartialEq, Eq)]
+pub enum Found {
+    /// No sequence, however long, reaches the pair.
+    Unreached,
+    /// Some sequence reaches the pair, but none of at most 1,000 symbols.
+    Long,
+    /// The first so many bytes of the buffer are the shortest and earliest sentence.
+    Sentence(usize),
+}
+
+/// The entries of a list: the offset of the first one, and how many there are.
+#[derive(Clone, Copy, Debug, PartialEq, Eq)]
+pub struct Entries {
+    pub first: usize,
+    pub count: usize,
+}
+
+/// One entry of a list: where its symbols stand, how many there are, and its lookahead.
+#[derive(Clone, Copy, Debug, PartialEq, Eq)]
+pub struct Entry {
+    pub start: usize,
+    pub length: usize,
+    pub lookahead: u16,
+}
+
+impl Entry {
+    /// The entry's sentence, as that part of the list's own bytes. The list must be the one that
+    /// the entry was read from.
+    pub fn symbols<'list>(&self, list: &'list [u8]) -> &'list [u8] {
+        &list[self.start..self.start + self.length]
+    }
+}
+
+/// What the judgement says of a list. Entries are counted from 0.
+#[derive(Clone, Copy, Debug, PartialEq, Eq)]
+pub enum Judgement {
+    /// Every state with a failing pair has its entry.
+    Complete,
+    /// The lowest state that has a failing pair and no entry.
+    Uncovered { state: u16 },
+    /// The entry fails in the state of an earlier one.
+    Repeat { entry: usize },
+    /// The entry's run does not end as error with the whole sentence in.
+    Wrong { entry: usize, ending: Ending },
+}

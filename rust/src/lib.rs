@@ -1,0 +1,207 @@
+//! Safe calls to Purlquartz, machine-checked tools for the tables of LR(1) parsers.
+//!
+//! A *book* holds a parser's tables: T terminals, N nonterminals, S states and P productions. In
+//! memory it is a row of 16-bit cells; [`read`] and [`write`](write()) turn bytes into cells and
+//! back. All memory is lent by the caller. Each call checks its inputs whole before it writes
+//! anything, so that a refused call changes nothing. Refusals come in the order: the book's, the
+//! list's or sentence's, then 10, 11, 13, 12.
+
+mod answers;
+mod foreign;
+
+pub use answers::*;
+use foreign::Answer;
+
+/// Reads a book from bytes into the first lent cells, and answers how many. The cells after them
+/// keep their values.
+///
+/// Refusals: 1 to 6 with the offset of the number's first byte; 12 if the book has more cells
+/// than are lent.
+pub fn read(bytes: &[u8], cells: &mut [u16]) -> Result<usize, Refusal> {
+    count(foreign::read(bytes, cells))
+}
+
+/// Checks the cells of a book and answers its sizes.
+///
+/// Refusals: 1, 3, 4, 5 and 6 with the cell's index. Every call that takes cells gives these
+/// first.
+pub fn check(cells: &[u16]) -> Result<Sizes, Refusal> {
+    let answer = accepted(foreign::check(cells))?;
+    Ok(Sizes {
+        terminals: answer[1] as u16,
+        nonterminals: answer[2] as u16,
+        states: answer[3] as u16,
+        productions: answer[4] as u16,
+    })
+}
+
+/// Writes the book that the cells hold to the first lent bytes, and answers how many. The bytes
+/// after them keep their values.
+///
+/// Refusals: those of [`check`]; 12 if the book has more bytes than are lent.
+pub fn write(cells: &[u16], bytes: &mut [u8]) -> Result<usize, Refusal> {
+    count(foreign::write(cells, bytes))
+}
+
+/// Runs a sentence with a lookahead, and answers how that ends. The first [`STACK_CELLS`] cells
+/// then hold the stack before the step that was not taken, bottom first, then zeros; the cells
+/// after them keep their values.
+///
+/// Refusals: those of [`check`]; 8, then 7 with the symbol's index; 11; 13 if fewer than
+/// [`STACK_CELLS`] cells are lent.
+pub fn run(
+    cells: &[u16],
+    sentence: &[u8],
+    lookahead: u16,
+    stack: &mut [u16],
+) -> Result<Ending, Refusal> {
+    let answer = accepted(foreign::run(cells, sentence, lookahead, stack))?;
+    let stop = [answer[1], answer[2], answer[3]];
+    Ok(ending(answer[0], stop))
+}
+
+/// Finds the shortest sentence, and of several the earliest in order, that brings the machine to
+/// the state with the lookahead. It stands at the front of the buffer; the bytes after it, or all
+/// where there is none, keep their values. The first T × T × S × (N + 8) work cells are zero
+/// afterwards ([`Sizes::work_cells`]).
+///
+/// Refusals: those of [`check`]; 10; 11; 13 if fewer work cells are lent; 12 if the buffer has
+/// fewer than [`SENTENCE_BYTES`] bytes.
+pub fn find(
+    cells: &[u16],
+    state: u16,
+    lookahead: u16,
+    work: &mut [u16],
+    buffer: &mut [u8],
+) -> Result<Found, Refusal> {
+    let answer = accepted(foreign::find(cells, state, lookahead, work, buffer))?;
+    Ok(match answer[0] {
+        1 => Found::Unreached,
+        2 => Found::Long,
+        3 => Found::Sentence(answer[1] as usize),
+        kind => unknown(kind),
+    })
+}
+
+/// Writes the whole map to the first S × T lent cells, by state, then terminal, and answers that
+/// count: the least length of a sentence that reaches the pair, [`LONG`] or [`UNREACHED`]. The
+/// cells after them keep their values; the work cells are zero as after [`find`].
+///
+/// Refusals: those of [`check`]; 13 if too few work cells are lent; 12 if fewer than S × T map
+/// cells are lent.
+pub fn map(cells: &[u16], work: &mut [u16], map: &mut [u16]) -> Result<usize, Refusal> {
+    count(foreign::map(cells, work, map))
+}
+
+/// Writes for each state the set of lookaheads that it is reached with, bit z for terminal z, and
+/// beside it how many there are; answers S. The cells after the first S keep their values; the
+/// work cells are zero as after [`find`].
+///
+/// Refusals: those of [`check`]; 13 if too few work cells are lent; 12 if fewer than S cells are
+/// lent for the sets or for their sizes.
+pub fn sets(
+    cells: &[u16],
+    work: &mut [u16],
+    sets: &mut [u32],
+    sizes: &mut [u32],
+) -> Result<usize, Refusal> {
+    count(foreign::sets(cells, work, sets, sizes))
+}
+
+/// Checks a list against a book, and answers where its first entry begins and how many there are.
+///
+/// Refusals: those of [`check`]; then with the offset of the number's first byte 1, 2, 9 for the
+/// count; for each entry 1, 2, 8 for its length, 1, 2, 7 for each symbol and 1, 2, 11 for its
+/// lookahead; 6.
+pub fn check_list(cells: &[u16], list: &[u8]) -> Result<Entries, Refusal> {
+    let answer = accepted(foreign::check_list(cells, list))?;
+    Ok(Entries {
+        first: answer[1] as usize,
+        count: answer[2] as usize,
+    })
+}
+
+/// Answers one entry of a list by its index from 0, or none past the last.
+///
+/// Refusals: those of [`check_list`].
+pub fn entry(cells: &[u16], list: &[u8], index: usize) -> Result<Option<Entry>, Refusal> {
+    let answer = accepted(foreign::entry(cells, list, index))?;
+    Ok(match answer[0] {
+        1 => Some(Entry {
+            start: answer[1] as usize,
+            length: answer[2] as usize,
+            lookahead: answer[3] as u16,
+        }),
+        2 => None,
+        kind => unknown(kind),
+    })
+}
+
+/// Judges a list: the first entry that is wrong or repeats a state, or else whether every state
+/// with a failing pair is covered. The work cells are zero as after [`find`], and so are the first
+/// [`STACK_CELLS`] stack cells.
+///
+/// Refusals: those of [`check_list`]; 13 if too few work or stack cells are lent.
+pub fn judge(
+    cells: &[u16],
+    list: &[u8],
+    work: &mut [u16],
+    stack: &mut [u16],
+) -> Result<Judgement, Refusal> {
+    let answer = accepted(foreign::judge(cells, list, work, stack))?;
+    Ok(match answer[0] {
+        1 => Judgement::Complete,
+        2 => Judgement::Uncovered {
+            state: answer[1] as u16,
+        },
+        3 => Judgement::Repeat {
+            entry: answer[1] as usize,
+        },
+        4 => Judgement::Wrong {
+            entry: answer[1] as usize,
+            ending: ending(answer[2], [answer[3], answer[4], answer[5]]),
+        },
+        kind => unknown(kind),
+    })
+}
+
+/// Kind 0 is a refusal for every call.
+fn accepted(answer: Answer) -> Result<Answer, Refusal> {
+    if answer[0] == 0 {
+        return Err(Refusal {
+            number: answer[1] as u16,
+            place: answer[2] as usize,
+        });
+    }
+    Ok(answer)
+}
+
+fn count(answer: Answer) -> Result<usize, Refusal> {
+    let answer = accepted(answer)?;
+    match answer[0] {
+        1 => Ok(answer[1] as usize),
+        kind => unknown(kind),
+    }
+}
+
+fn ending(kind: u64, [state, symbol, taken]: [u64; 3]) -> Ending {
+    let stop = Stop {
+        state: state as u16,
+        symbol: symbol as u16,
+        taken: taken as u16,
+    };
+    match kind {
+        1 => Ending::Accepted(stop),
+        2 => Ending::Error(stop),
+        3 => Ending::Broken(stop),
+        4 => Ending::Passed(stop),
+        5 => Ending::Deep(stop),
+        6 => Ending::Spinning(stop),
+        kind => unknown(kind),
+    }
+}
+
+/// Not met: the library's contracts name every kind.
+fn unknown(kind: u64) -> ! {
+    panic!("the library answered the unknown kind {kind}")
+}
