@@ -1,0 +1,174 @@
+//! The table book.
+
+use super::numbers::{encode, refuse, Bytes, Cells, Source};
+use purlquartz::{Refusal, Sizes};
+
+#[derive(Clone, Copy, Debug, PartialEq, Eq)]
+pub enum Action {
+    Error,
+    Accept,
+    Shift(u16),
+    Reduce(u16),
+}
+
+#[derive(Clone, Copy, Debug, PartialEq, Eq)]
+pub struct Production {
+    pub left: u16,
+    pub length: u16,
+}
+
+#[derive(Clone, Debug, PartialEq, Eq)]
+pub struct Book {
+    pub sizes: Sizes,
+    pub productions: Vec<Production>,
+    /// By state, then terminal.
+    pub actions: Vec<Action>,
+    /// By state, then nonterminal.
+    pub gotos: Vec<Option<u16>>,
+}
+
+impl Book {
+    pub fn from_bytes(bytes: &[u8]) -> Result<Book, Refusal> {
+        decode(&mut Bytes::new(bytes))
+    }
+
+    pub fn from_cells(cells: &[u16]) -> Result<Book, Refusal> {
+        decode(&mut Cells::new(cells))
+    }
+
+    pub fn terminals(&self) -> usize {
+        self.sizes.terminals.into()
+    }
+
+    pub fn nonterminals(&self) -> usize {
+        self.sizes.nonterminals.into()
+    }
+
+    pub fn states(&self) -> usize {
+        self.sizes.states.into()
+    }
+
+    pub fn action(&self, state: usize, terminal: usize) -> Action {
+        self.actions[state * self.terminals() + terminal]
+    }
+
+    pub fn goto(&self, state: usize, nonterminal: usize) -> Option<usize> {
+        self.gotos[state * self.nonterminals() + nonterminal].map(usize::from)
+    }
+
+    pub fn cells(&self) -> Vec<u16> {
+        let sizes = self.sizes;
+        let mut cells = vec![1, sizes.terminals, sizes.nonterminals];
+        cells.extend([sizes.states, sizes.productions]);
+        for production in &self.productions {
+            cells.extend([production.left, production.length]);
+        }
+        cells.extend(self.actions.iter().map(|&action| action_cell(action)));
+        cells.extend(self.gotos.iter().map(|goto| goto.map_or(0, |s| s + 1)));
+        cells
+    }
+
+    pub fn bytes(&self) -> Vec<u8> {
+        let mut bytes = Vec::new();
+        for cell in self.cells() {
+            encode(cell, &mut bytes);
+        }
+        bytes
+    }
+}
+
+fn action_cell(action: Action) -> u16 {
+    match action {
+        Action::Error => 0,
+        Action::Accept => 1,
+        Action::Shift(state) => 2 + 2 * state,
+        Action::Reduce(production) => 3 + 2 * production,
+    }
+}
+
+fn decode(source: &mut impl Source) -> Result<Book, Refusal> {
+    ranged(source, 3, 1, 1)?;
+    let terminals = ranged(source, 4, 1, 32)?;
+    let nonterminals = ranged(source, 4, 0, 32)?;
+    let states = ranged(source, 4, 1, 128)?;
+    let productions = ranged(source, 4, 0, 128)?;
+    let sizes = Sizes {
+        terminals,
+        nonterminals,
+        states,
+        productions,
+    };
+    let book = Book {
+        sizes,
+        productions: decode_productions(source, sizes)?,
+        actions: decode_actions(source, sizes)?,
+        gotos: decode_gotos(source, sizes)?,
+    };
+    match source.rest() {
+        Some(place) => refuse(6, place),
+        None => Ok(book),
+    }
+}
+
+/// The next number if it is from `least` to `most`, or else the refusal given for it.
+fn ranged(source: &mut impl Source, fault: u16, least: u16, most: u16) -> Result<u16, Refusal> {
+    let number = source.next()?;
+    if number.value < least || number.value > most {
+        return refuse(fault, number.place);
+    }
+    Ok(number.value)
+}
+
+fn decode_productions(source: &mut impl Source, sizes: Sizes) -> Result<Vec<Production>, Refusal> {
+    let mut productions = Vec::new();
+    for _ in 0..sizes.productions {
+        let left = source.next()?;
+        if left.value >= sizes.nonterminals {
+            return refuse(5, left.place);
+        }
+        let length = ranged(source, 5, 0, 32)?;
+        let left = left.value;
+        productions.push(Production { left, length });
+    }
+    Ok(productions)
+}
+
+fn decode_actions(source: &mut impl Source, sizes: Sizes) -> Result<Vec<Action>, Refusal> {
+    let mut actions = Vec::new();
+    for _ in 0..sizes.states {
+        for terminal in 0..sizes.terminals {
+            let number = source.next()?;
+            match decode_action(number.value, terminal, sizes) {
+                Some(action) => actions.push(action),
+                None => return refuse(5, number.place),
+            }
+        }
+    }
+    Ok(actions)
+}
+
+fn decode_action(value: u16, terminal: u16, sizes: Sizes) -> Option<Action> {
+    let end_mark = terminal == 0;
+    match value {
+        0 => Some(Action::Error),
+        1 => end_mark.then_some(Action::Accept),
+        _ if value % 2 == 0 => {
+            let state = (value - 2) / 2;
+            (state < sizes.states && !end_mark).then_some(Action::Shift(state))
+        }
+        _ => {
+            let production = (value - 3) / 2;
+            (production < sizes.productions).then_some(Action::Reduce(production))
+        }
+    }
+}
+
+fn decode_gotos(source: &mut impl Source, sizes: Sizes) -> Result<Vec<Option<u16>>, Refusal> {
+    let count = usize::from(sizes.states) * usize::from(sizes.nonterminals);
+    let mut gotos = Vec::new();
+    for _ in 0..count {
+        let value = ranged(source, 5, 0, sizes.states)?;
+        gotos.push(value.checked_sub(1));
+    }
+    Ok(gotos)
+}

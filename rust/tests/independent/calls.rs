@@ -1,0 +1,230 @@
+//! Every call of the library, over lent memory.
+
+use super::book::{Action, Book};
+use super::numbers::refuse;
+use super::reach::{distances, map_cell};
+use super::summaries::Summaries;
+use super::words::Words;
+use super::{list, machine};
+use purlquartz::*;
+
+pub fn read(bytes: &[u8], cells: &mut [u16]) -> Result<usize, Refusal> {
+    let result = Book::from_bytes(bytes)?.cells();
+    hand_over(&result, cells)
+}
+
+pub fn check(cells: &[u16]) -> Result<Sizes, Refusal> {
+    Ok(Book::from_cells(cells)?.sizes)
+}
+
+pub fn write(cells: &[u16], bytes: &mut [u8]) -> Result<usize, Refusal> {
+    let result = Book::from_cells(cells)?.bytes();
+    hand_over(&result, bytes)
+}
+
+fn hand_over<T: Copy>(result: &[T], lent: &mut [T]) -> Result<usize, Refusal> {
+    if lent.len() < result.len() {
+        return refuse(12, 0);
+    }
+    lent[..result.len()].copy_from_slice(result);
+    Ok(result.len())
+}
+
+pub fn run(
+    cells: &[u16],
+    sentence: &[u8],
+    lookahead: u16,
+    stack: &mut [u16],
+) -> Result<Ending, Refusal> {
+    let book = Book::from_cells(cells)?;
+    check_sentence(sentence, book.terminals())?;
+    if lookahead >= book.sizes.terminals {
+        return refuse(11, 0);
+    }
+    if stack.len() < STACK_CELLS {
+        return refuse(13, 0);
+    }
+    let (ending, left) = machine::run(&book, sentence, lookahead);
+    stack[..STACK_CELLS].fill(0);
+    stack[..left.len()].copy_from_slice(&left);
+    Ok(ending)
+}
+
+fn check_sentence(sentence: &[u8], terminals: usize) -> Result<(), Refusal> {
+    if sentence.len() > SENTENCE_BYTES {
+        return refuse(8, 0);
+    }
+    for (index, &symbol) in sentence.iter().enumerate() {
+        if symbol == 0 || usize::from(symbol) >= terminals {
+            return refuse(7, index);
+        }
+    }
+    Ok(())
+}
+
+fn check_work(book: &Book, work: &[u16]) -> Result<(), Refusal> {
+    if work.len() < book.sizes.work_cells() {
+        return refuse(13, 0);
+    }
+    Ok(())
+}
+
+fn clear_work(book: &Book, work: &mut [u16]) {
+    work[..book.sizes.work_cells()].fill(0);
+}
+
+pub fn find(
+    cells: &[u16],
+    state: u16,
+    lookahead: u16,
+    work: &mut [u16],
+    buffer: &mut [u8],
+) -> Result<Found, Refusal> {
+    let book = Book::from_cells(cells)?;
+    if state >= book.sizes.states {
+        return refuse(10, 0);
+    }
+    if lookahead >= book.sizes.terminals {
+        return refuse(11, 0);
+    }
+    check_work(&book, work)?;
+    if buffer.len() < SENTENCE_BYTES {
+        return refuse(12, 0);
+    }
+    clear_work(&book, work);
+    let summaries = Summaries::new(&book);
+    let distances = distances(&summaries);
+    let head = summaries.head(state.into(), lookahead.into());
+    Ok(match map_cell(distances[head]) {
+        UNREACHED => Found::Unreached,
+        LONG => Found::Long,
+        length => {
+            let sentence = Words::new(&summaries, &distances).sentence(head);
+            buffer[..usize::from(length)].copy_from_slice(&sentence);
+            Found::Sentence(sentence.len())
+        }
+    })
+}
+
+/// The whole map of a valid book.
+pub fn map_of(book: &Book) -> Vec<u16> {
+    let summaries = Summaries::new(book);
+    distances(&summaries).into_iter().map(map_cell).collect()
+}
+
+/// The answers for all pairs of a valid book, by state, then terminal.
+pub fn find_all(book: &Book) -> Vec<(Found, Vec<u8>)> {
+    let summaries = Summaries::new(book);
+    let distances = distances(&summaries);
+    let mut words = Words::new(&summaries, &distances);
+    let mut answers = Vec::new();
+    for (head, &distance) in distances.iter().enumerate() {
+        answers.push(match map_cell(distance) {
+            UNREACHED => (Found::Unreached, Vec::new()),
+            LONG => (Found::Long, Vec::new()),
+            length => (Found::Sentence(length.into()), words.sentence(head)),
+        });
+    }
+    answers
+}
+
+pub fn map(cells: &[u16], work: &mut [u16], map: &mut [u16]) -> Result<usize, Refusal> {
+    let book = Book::from_cells(cells)?;
+    check_work(&book, work)?;
+    let count = hand_over(&map_of(&book), map)?;
+    clear_work(&book, work);
+    Ok(count)
+}
+
+pub fn sets(
+    cells: &[u16],
+    work: &mut [u16],
+    sets: &mut [u32],
+    sizes: &mut [u32],
+) -> Result<usize, Refusal> {
+    let book = Book::from_cells(cells)?;
+    check_work(&book, work)?;
+    if sets.len() < book.states() || sizes.len() < book.states() {
+        return refuse(12, 0);
+    }
+    clear_work(&book, work);
+    for (state, row) in map_of(&book).chunks(book.terminals()).enumerate() {
+        sets[state] = 0;
+        sizes[state] = 0;
+        for (terminal, &cell) in row.iter().enumerate() {
+            if cell != UNREACHED {
+                sets[state] |= 1 << terminal;
+                sizes[state] += 1;
+            }
+        }
+    }
+    Ok(book.states())
+}
+
+pub fn check_list(cells: &[u16], bytes: &[u8]) -> Result<Entries, Refusal> {
+    let book = Book::from_cells(cells)?;
+    Ok(list::decode(bytes, book.sizes.terminals)?.summary())
+}
+
+pub fn entry(cells: &[u16], bytes: &[u8], index: usize) -> Result<Option<Entry>, Refusal> {
+    let book = Book::from_cells(cells)?;
+    let list = list::decode(bytes, book.sizes.terminals)?;
+    Ok(list.entries.get(index).copied())
+}
+
+pub fn judge(
+    cells: &[u16],
+    bytes: &[u8],
+    work: &mut [u16],
+    stack: &mut [u16],
+) -> Result<Judgement, Refusal> {
+    let book = Book::from_cells(cells)?;
+    let list = list::decode(bytes, book.sizes.terminals)?;
+    check_work(&book, work)?;
+    if stack.len() < STACK_CELLS {
+        return refuse(13, 0);
+    }
+    clear_work(&book, work);
+    stack[..STACK_CELLS].fill(0);
+    Ok(judge_entries(&book, bytes, &list.entries))
+}
+
+fn judge_entries(book: &Book, bytes: &[u8], entries: &[Entry]) -> Judgement {
+    let mut covered = vec![false; book.states()];
+    for (index, entry) in entries.iter().enumerate() {
+        let (ending, _) = machine::run(book, entry.symbols(bytes), entry.lookahead);
+        match ending {
+            Ending::Error(stop) if usize::from(stop.taken) == entry.length => {
+                let seen = &mut covered[usize::from(stop.state)];
+                if *seen {
+                    return Judgement::Repeat { entry: index };
+                }
+                *seen = true;
+            }
+            ending => {
+                return Judgement::Wrong {
+                    entry: index,
+                    ending,
+                }
+            }
+        }
+    }
+    judge_cover(book, &covered)
+}
+
+/// The lowest state with a failing pair, long ones too, that is not covered.
+fn judge_cover(book: &Book, covered: &[bool]) -> Judgement {
+    let map = map_of(book);
+    let failing = |state: usize| {
+        (0..book.terminals()).any(|terminal| {
+            book.action(state, terminal) == Action::Error
+                && map[state * book.terminals() + terminal] != UNREACHED
+        })
+    };
+    match (0..book.states()).find(|&state| !covered[state] && failing(state)) {
+        Some(state) => Judgement::Uncovered {
+            state: state as u16,
+        },
+        None => Judgement::Complete,
+    }
+}

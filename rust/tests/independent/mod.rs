@@ -1,0 +1,15 @@
+//! A second implementation of every call, written from the specification alone, to compare the
+//! library with. Only the plain answer types are shared.
+//!
+//! Its finder works another way than the library's: pop summaries by rising cost (`summaries`),
+//! then distances and words over them (`reach`, `words`).
+#![allow(dead_code)] // no single test uses all of it
+
+pub mod book;
+pub mod calls;
+pub mod list;
+pub mod machine;
+pub mod numbers;
+pub mod reach;
+pub mod summaries;
+pub mod words;

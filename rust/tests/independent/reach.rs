@@ -1,0 +1,38 @@
+//! Least lengths from the start to every head: the whole map.
+
+use super::summaries::{sum, Summaries, OVER};
+use purlquartz::{LONG, UNREACHED};
+
+/// By head: the least cost from state 0 with any terminal next, or none.
+pub fn distances(summaries: &Summaries) -> Vec<Option<u16>> {
+    let mut leaving = vec![Vec::new(); summaries.heads()];
+    for edge in &summaries.edges {
+        leaving[edge.from as usize].push((edge.to as usize, edge.cost));
+    }
+    let mut distances = vec![None; summaries.heads()];
+    let mut due = vec![Vec::new(); OVER + 1];
+    due[0].extend(0..summaries.book.terminals());
+    for level in 0..=OVER {
+        while let Some(head) = due[level].pop() {
+            if distances[head].is_some() {
+                continue;
+            }
+            distances[head] = Some(level as u16);
+            for &(to, cost) in &leaving[head] {
+                if distances[to].is_none() {
+                    due[sum(level as u16, cost)].push(to);
+                }
+            }
+        }
+    }
+    distances
+}
+
+/// The distances as the map writes them.
+pub fn map_cell(distance: Option<u16>) -> u16 {
+    match distance {
+        None => UNREACHED,
+        Some(cost) if usize::from(cost) == OVER => LONG,
+        Some(cost) => cost,
+    }
+}
