@@ -1,0 +1,164 @@
+//! One call at a time, made of the subject and of the independent implementation on equal memory.
+//! Both answers and all memory, the guards too, must come out equal.
+
+use super::lent::{Lent, Memory};
+use super::{Calls, INDEPENDENT};
+use crate::independent::book::Book;
+use crate::independent::calls::find_all;
+use purlquartz::Refusal;
+use std::fmt::Debug;
+
+/// The refusal that both gave, if any; or how they differ.
+pub type Outcome = Result<Option<Refusal>, String>;
+
+fn same<A: Debug + PartialEq, M: Memory>(
+    call: &str,
+    subject: (Result<A, Refusal>, M),
+    expected: (Result<A, Refusal>, M),
+) -> Outcome {
+    if subject.0 != expected.0 {
+        return Err(format!("{call}: {:?}, not {:?}", subject.0, expected.0));
+    }
+    match subject.1.difference(&expected.1) {
+        Some(difference) => Err(format!("{call}: {difference}")),
+        None => Ok(expected.0.err()),
+    }
+}
+
+pub fn read(subject: &Calls, bytes: &[u8], cells: &Lent<u16>) -> Outcome {
+    let made = |calls: &Calls| {
+        let (input, mut cells) = (Lent::holding(bytes), cells.clone());
+        let answer = (calls.read)(input.part(), cells.part_mut());
+        (answer, (input, cells))
+    };
+    same("read", made(subject), made(&INDEPENDENT))
+}
+
+pub fn check(subject: &Calls, cells: &[u16]) -> Outcome {
+    let made = |calls: &Calls| {
+        let input = Lent::holding(cells);
+        ((calls.check)(input.part()), input)
+    };
+    same("check", made(subject), made(&INDEPENDENT))
+}
+
+pub fn write(subject: &Calls, cells: &[u16], bytes: &Lent<u8>) -> Outcome {
+    let made = |calls: &Calls| {
+        let (input, mut bytes) = (Lent::holding(cells), bytes.clone());
+        let answer = (calls.write)(input.part(), bytes.part_mut());
+        (answer, (input, bytes))
+    };
+    same("write", made(subject), made(&INDEPENDENT))
+}
+
+pub fn run(
+    subject: &Calls,
+    cells: &[u16],
+    sentence: &[u8],
+    lookahead: u16,
+    stack: &Lent<u16>,
+) -> Outcome {
+    let made = |calls: &Calls| {
+        let (cells, sentence) = (Lent::holding(cells), Lent::holding(sentence));
+        let mut stack = stack.clone();
+        let answer = (calls.run)(cells.part(), sentence.part(), lookahead, stack.part_mut());
+        (answer, ((cells, sentence), stack))
+    };
+    same("run", made(subject), made(&INDEPENDENT))
+}
+
+pub fn find(
+    subject: &Calls,
+    cells: &[u16],
+    (state, lookahead): (u16, u16),
+    work: &Lent<u16>,
+    buffer: &Lent<u8>,
+) -> Outcome {
+    let made = |calls: &Calls| {
+        let (cells, mut work, mut buffer) = (Lent::holding(cells), work.clone(), buffer.clone());
+        let lent = (work.part_mut(), buffer.part_mut());
+        let answer = (calls.find)(cells.part(), state, lookahead, lent.0, lent.1);
+        (answer, (cells, (work, buffer)))
+    };
+    same("find", made(subject), made(&INDEPENDENT))
+}
+
+/// All pairs of a good book, against answers that are worked out once.
+pub fn find_each(subject: &Calls, book: &Book, work: &Lent<u16>, buffer: &Lent<u8>) -> Outcome {
+    let cells = book.cells();
+    let mut cleared = work.clone();
+    cleared.part_mut()[..book.sizes.work_cells()].fill(0);
+    for (pair, (found, sentence)) in find_all(book).into_iter().enumerate() {
+        let (mut work, mut lent) = (work.clone(), buffer.clone());
+        let state = (pair / book.terminals()) as u16;
+        let lookahead = (pair % book.terminals()) as u16;
+        let answer = (subject.find)(&cells, state, lookahead, work.part_mut(), lent.part_mut());
+        let mut expected = buffer.clone();
+        expected.part_mut()[..sentence.len()].copy_from_slice(&sentence);
+        let call = format!("find {state} {lookahead}");
+        let expected = (cleared.clone(), expected);
+        same(&call, (answer, (work, lent)), (Ok(found), expected))?;
+    }
+    Ok(None)
+}
+
+pub fn map(subject: &Calls, cells: &[u16], work: &Lent<u16>, map: &Lent<u16>) -> Outcome {
+    let made = |calls: &Calls| {
+        let (cells, mut work, mut map) = (Lent::holding(cells), work.clone(), map.clone());
+        let answer = (calls.map)(cells.part(), work.part_mut(), map.part_mut());
+        (answer, (cells, (work, map)))
+    };
+    same("map", made(subject), made(&INDEPENDENT))
+}
+
+pub fn sets(
+    subject: &Calls,
+    cells: &[u16],
+    work: &Lent<u16>,
+    sets: &Lent<u32>,
+    sizes: &Lent<u32>,
+) -> Outcome {
+    let made = |calls: &Calls| {
+        let (cells, mut work) = (Lent::holding(cells), work.clone());
+        let (mut sets, mut sizes) = (sets.clone(), sizes.clone());
+        let lent = (work.part_mut(), sets.part_mut(), sizes.part_mut());
+        let answer = (calls.sets)(cells.part(), lent.0, lent.1, lent.2);
+        (answer, ((cells, work), (sets, sizes)))
+    };
+    same("sets", made(subject), made(&INDEPENDENT))
+}
+
+pub fn check_list(subject: &Calls, cells: &[u16], list: &[u8]) -> Outcome {
+    let made = |calls: &Calls| {
+        let (cells, list) = (Lent::holding(cells), Lent::holding(list));
+        let answer = (calls.check_list)(cells.part(), list.part());
+        (answer, (cells, list))
+    };
+    same("check_list", made(subject), made(&INDEPENDENT))
+}
+
+pub fn entry(subject: &Calls, cells: &[u16], list: &[u8], index: usize) -> Outcome {
+    let made = |calls: &Calls| {
+        let (cells, list) = (Lent::holding(cells), Lent::holding(list));
+        let answer = (calls.entry)(cells.part(), list.part(), index);
+        (answer, (cells, list))
+    };
+    same("entry", made(subject), made(&INDEPENDENT))
+}
+
+pub fn judge(
+    subject: &Calls,
+    cells: &[u16],
+    list: &[u8],
+    work: &Lent<u16>,
+    stack: &Lent<u16>,
+) -> Outcome {
+    let made = |calls: &Calls| {
+        let (cells, list) = (Lent::holding(cells), Lent::holding(list));
+        let (mut work, mut stack) = (work.clone(), stack.clone());
+        let lent = (work.part_mut(), stack.part_mut());
+        let answer = (calls.judge)(cells.part(), list.part(), lent.0, lent.1);
+        (answer, ((cells, list), (work, stack)))
+    };
+    same("judge", made(subject), made(&INDEPENDENT))
+}

@@ -1,0 +1,262 @@
+//! Answers that are known beforehand: the lines of the specification, the limits, and books that
+//! would take a step-by-step search for ever. Each is asked of the library and of the independent
+//! implementation.
+
+mod both;
+#[allow(dead_code)]
+#[path = "../examples/make_book/grammar.rs"]
+mod grammar;
+mod independent;
+#[allow(dead_code)]
+#[path = "../examples/make_book/lalr.rs"]
+mod lalr;
+mod random;
+
+use both::{Calls, INDEPENDENT, LIBRARY};
+use grammar::Grammar;
+use purlquartz::*;
+
+/// Makes of each function that takes the calls two tests.
+macro_rules! on_both {
+    ($($name:ident)*) => {
+        mod of_the_library { $(#[test] fn $name() { super::$name(&super::LIBRARY) })* }
+        mod of_the_independent { $(#[test] fn $name() { super::$name(&super::INDEPENDENT) })* }
+    };
+}
+
+on_both! {
+    one_number
+    refused_places
+    bracket_listing
+    double_sentences
+    small_runs
+    bracket_lists
+    work_cells
+    sentence_of_1000_and_1001
+    exponential_length_is_long
+    many_empty_reductions
+}
+
+const BRACKET: &[u8] = include_bytes!("../../books/bracket.book");
+const DOUBLE: &[u8] = include_bytes!("../../books/double.book");
+
+fn cells_of(calls: &Calls, bytes: &[u8]) -> Vec<u16> {
+    let mut cells = vec![0; 8_453];
+    let count = (calls.read)(bytes, &mut cells).expect("a good book");
+    cells.truncate(count);
+    cells
+}
+
+fn work_for(calls: &Calls, cells: &[u16]) -> Vec<u16> {
+    vec![0; (calls.check)(cells).expect("a good book").work_cells()]
+}
+
+/// The sentence of a pair, or the other answer.
+fn find(calls: &Calls, cells: &[u16], state: u16, lookahead: u16) -> Result<Vec<u8>, Found> {
+    let mut work = work_for(calls, cells);
+    let mut buffer = [0; SENTENCE_BYTES];
+    match (calls.find)(cells, state, lookahead, &mut work, &mut buffer).expect("no refusal") {
+        Found::Sentence(length) => Ok(buffer[..length].to_vec()),
+        other => Err(other),
+    }
+}
+
+/// The first number of a book is the form, so 1 and 2 come before 3 and each tells what was read.
+fn one_number(calls: &Calls) {
+    let reads = |bytes: &[u8]| (calls.read)(bytes, &mut [0; 9]).expect_err("no book");
+    let refusal = |number| Refusal { number, place: 0 };
+    assert_eq!(reads(&[0x80, 0x01]), refusal(3));
+    assert_eq!(reads(&[0xff, 0xff, 0x03]), refusal(3));
+    for bad in [
+        &[0x80, 0x80, 0x04][..],
+        &[0x80, 0x00],
+        &[0x80, 0x80, 0x80],
+        &[0xff, 0x80, 0x00],
+    ] {
+        assert_eq!(reads(bad), refusal(2));
+    }
+    for short in [&[][..], &[0x80], &[0x80, 0x80], &[0xff, 0xff]] {
+        assert_eq!(reads(short), refusal(1));
+    }
+}
+
+fn refused_places(calls: &Calls) {
+    let refused = |bytes: &[u8]| {
+        let refusal = (calls.read)(bytes, &mut [0; 99]).expect_err("no book");
+        (refusal.number, refusal.place)
+    };
+    assert_eq!(refused(&BRACKET[..38]), (1, 38));
+    assert_eq!(refused(&[BRACKET, &[0x80]].concat()), (6, 39));
+    assert_eq!(refused(&[1, 33]), (4, 1));
+    assert_eq!(refused(&[1, 4, 1, 0x81, 0x01]), (4, 3));
+    assert_eq!(refused(&[1, 4, 1, 6, 2, 1]), (5, 5));
+    // A shift under terminal 0, accept under another, a state and a production too many.
+    for (at, value) in [(9, 2), (10, 1), (10, 14), (9, 7)] {
+        let mut bytes = BRACKET.to_vec();
+        bytes[at] = value;
+        assert_eq!(refused(&bytes), (5, at));
+    }
+    let mut bytes = BRACKET.to_vec();
+    bytes[33] = 7;
+    assert_eq!(refused(&bytes), (5, 33));
+}
+
+fn bracket_listing(calls: &Calls) {
+    let cells = cells_of(calls, BRACKET);
+    let listing: [(u16, u16, Option<&[u8]>); 14] = [
+        (0, 0, Some(&[])),
+        (0, 3, Some(&[])),
+        (1, 1, Some(&[1])),
+        (1, 2, Some(&[1])),
+        (2, 0, Some(&[2])),
+        (2, 3, Some(&[2])),
+        (3, 1, None),
+        (3, 2, None),
+        (3, 3, Some(&[1])),
+        (4, 0, Some(&[2, 1])),
+        (4, 1, None),
+        (4, 2, None),
+        (5, 1, Some(&[2, 1, 3])),
+        (5, 2, Some(&[2, 1, 3])),
+    ];
+    for (state, lookahead, sentence) in listing {
+        let expected = sentence.map(<[u8]>::to_vec).ok_or(Found::Unreached);
+        assert_eq!(find(calls, &cells, state, lookahead), expected);
+    }
+    assert_eq!(find(calls, &cells, 5, 0), Ok(vec![2, 1, 3]));
+}
+
+fn double_sentences(calls: &Calls) {
+    let cells = cells_of(calls, DOUBLE);
+    let lines: [(u16, u16, &[u8]); 4] = [
+        (3, 1, &[1, 1]),
+        (3, 2, &[1]),
+        (5, 0, &[1, 1, 1]),
+        (2, 0, &[1, 1, 1]),
+    ];
+    for (state, lookahead, sentence) in lines {
+        assert_eq!(find(calls, &cells, state, lookahead), Ok(sentence.to_vec()));
+    }
+}
+
+fn small_runs(calls: &Calls) {
+    let mut stack = [7; STACK_CELLS + 1];
+    let spinning = [1, 1, 1, 2, 2, 0, 0, 0, 1, 3, 5, 2, 0];
+    let stop = Stop {
+        state: 1,
+        symbol: 0,
+        taken: 0,
+    };
+    let ending = (calls.run)(&spinning, &[], 0, &mut stack);
+    assert_eq!(ending, Ok(Ending::Spinning(stop)));
+    assert_eq!(stack[..4], [0, 1, 0, 0]);
+    assert_eq!(stack[STACK_CELLS], 7);
+    assert_eq!(find(calls, &spinning, 1, 0), Ok(vec![]));
+    let deep = [1, 1, 1, 1, 1, 0, 0, 3, 1];
+    let stop = Stop { state: 0, ..stop };
+    let ending = (calls.run)(&deep, &[], 0, &mut stack);
+    assert_eq!(ending, Ok(Ending::Deep(stop)));
+}
+
+fn bracket_lists(calls: &Calls) {
+    let cells = cells_of(calls, BRACKET);
+    let judge = |list: &[u8]| {
+        let mut work = work_for(calls, &cells);
+        (calls.judge)(&cells, list, &mut work, &mut [0; STACK_CELLS])
+    };
+    let list = [
+        6, 0, 0, 1, 1, 1, 1, 2, 0, 1, 1, 3, 2, 2, 1, 0, 3, 2, 1, 3, 1,
+    ];
+    assert_eq!(judge(&list), Ok(Judgement::Complete));
+    let shorter = [5, 0, 0, 1, 1, 1, 1, 1, 3, 2, 2, 1, 0, 3, 2, 1, 3, 1];
+    assert_eq!(judge(&shorter), Ok(Judgement::Uncovered { state: 2 }));
+    let entry = (calls.entry)(&cells, &list, 4).expect("a good list");
+    assert_eq!(entry.map(|entry| entry.symbols(&list)), Some(&[2, 1][..]));
+    assert_eq!((calls.entry)(&cells, &list, 6), Ok(None));
+}
+
+/// A book without actions or gotos.
+fn idle_book(terminals: u16, nonterminals: u16, states: u16) -> Vec<u16> {
+    let rest = usize::from(states) * usize::from(terminals + nonterminals);
+    let mut cells = vec![1, terminals, nonterminals, states, 0];
+    cells.resize(5 + rest, 0);
+    cells
+}
+
+fn work_cells(calls: &Calls) {
+    let map = |book: &[u16], work: usize| (calls.map)(book, &mut vec![9; work], &mut [0; 256]);
+    let book = idle_book(8, 8, 32);
+    assert_eq!(map(&book, 32_768), Ok(256));
+    let few = Refusal {
+        number: 13,
+        place: 0,
+    };
+    assert_eq!(map(&book, 32_767), Err(few));
+    let book = idle_book(8, 9, 32);
+    assert_eq!(map(&book, 32_768), Err(few));
+    assert_eq!(map(&book, 34_816), Ok(256));
+}
+
+fn grammar_cells(text: &str) -> Vec<u16> {
+    let grammar = Grammar::parse(text).expect("a good grammar");
+    let tables = lalr::build(&grammar).expect("within the limits");
+    assert_eq!(tables.conflicts, Vec::<String>::new());
+    tables.cells
+}
+
+/// The state that state 0 leads to under a nonterminal.
+fn first_goto(cells: &[u16], nonterminal: usize) -> u16 {
+    let [terminals, nonterminals, states, productions] = [1, 2, 3, 4].map(|at| cells[at] as usize);
+    assert!(nonterminal < nonterminals);
+    cells[5 + 2 * productions + states * terminals + nonterminal] - 1
+}
+
+fn action(cells: &[u16], state: u16, terminal: usize) -> u16 {
+    let [terminals, productions] = [1, 4].map(|at| cells[at] as usize);
+    cells[5 + 2 * productions + usize::from(state) * terminals + terminal]
+}
+
+fn sentence_of_1000_and_1001(calls: &Calls) {
+    let ten = |name: &str| [name; 10].join(" ");
+    let cells = grammar_cells(&format!(
+        "terminals: x y\nstart -> c y\nc -> {}\nb -> {}\na -> {}\n",
+        ten("b"),
+        ten("a"),
+        ten("x")
+    ));
+    let whole = first_goto(&cells, 1);
+    assert_eq!(find(calls, &cells, whole, 2), Ok(vec![1; 1_000]));
+    let after = action(&cells, whole, 2) / 2 - 1;
+    assert_eq!(find(calls, &cells, after, 0), Err(Found::Long));
+    assert_eq!(find(calls, &cells, whole, 1), Err(Found::Unreached));
+}
+
+fn exponential_length_is_long(calls: &Calls) {
+    let mut text = "terminals: x y\nstart -> a30 y\n".to_string();
+    for level in (1..=30).rev() {
+        text += &format!("a{level} -> a{0} a{0}\n", level - 1);
+    }
+    text += "a0 -> x\n";
+    let cells = grammar_cells(&text);
+    let whole = first_goto(&cells, 1);
+    assert_eq!(find(calls, &cells, whole, 2), Err(Found::Long));
+    let short = first_goto(&cells, 22);
+    assert_eq!(find(calls, &cells, short, 1), Ok(vec![1; 512]));
+    let longer = first_goto(&cells, 21);
+    assert_eq!(find(calls, &cells, longer, 1), Err(Found::Long));
+}
+
+fn many_empty_reductions(calls: &Calls) {
+    let mut text = "terminals: x\nstart -> a28 x\n".to_string();
+    for level in (1..=28).rev() {
+        text += &format!("a{level} -> a{0} a{0}\n", level - 1);
+    }
+    text += "a0 ->\n";
+    let cells = grammar_cells(&text);
+    let whole = first_goto(&cells, 1);
+    assert_eq!(find(calls, &cells, whole, 1), Ok(vec![]));
+    let after = action(&cells, whole, 1) / 2 - 1;
+    assert_eq!(find(calls, &cells, after, 0), Ok(vec![1]));
+    let ending = (calls.run)(&cells, &[1], 0, &mut [0; STACK_CELLS]);
+    assert!(matches!(ending, Ok(Ending::Spinning(_))));
+}

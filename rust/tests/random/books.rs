@@ -1,0 +1,103 @@
+//! Random books.
+
+use super::Random;
+use crate::independent::book::{Action, Book, Production};
+use purlquartz::Sizes;
+
+/// What a random book is like. The shares of actions and gotos are percents.
+#[derive(Clone, Copy, Debug)]
+pub struct Taste {
+    pub sizes: Sizes,
+    pub longest: usize,
+    pub shifts: usize,
+    pub reduces: usize,
+    pub gotos: usize,
+}
+
+/// Sizes of a book that brute force can deal with, dense or sparse.
+pub fn small_taste(random: &mut Random) -> Taste {
+    let sizes = Sizes {
+        terminals: random.between(1, 4) as u16,
+        nonterminals: random.between(0, 3) as u16,
+        states: random.between(1, 7) as u16,
+        productions: random.between(0, 5) as u16,
+    };
+    Taste {
+        sizes,
+        longest: random.between(0, 4),
+        shifts: random.between(5, 60),
+        reduces: random.between(5, 60),
+        gotos: random.between(20, 100),
+    }
+}
+
+/// A book with any tables that are in range: states need not be reachable, reductions may break
+/// or go on for ever.
+pub fn wild(random: &mut Random, taste: Taste) -> Book {
+    let mut sizes = taste.sizes;
+    if sizes.nonterminals == 0 {
+        sizes.productions = 0;
+    }
+    let productions = (0..sizes.productions).map(|_| Production {
+        left: random.below(sizes.nonterminals.into()) as u16,
+        length: random.between(0, taste.longest) as u16,
+    });
+    let productions = productions.collect();
+    let mut actions = Vec::new();
+    for _ in 0..sizes.states {
+        for terminal in 0..sizes.terminals {
+            actions.push(wild_action(random, taste, sizes, terminal));
+        }
+    }
+    let goto_count = usize::from(sizes.states) * usize::from(sizes.nonterminals);
+    let gotos = (0..goto_count).map(|_| {
+        let state = random.below(sizes.states.into()) as u16;
+        random.percent(taste.gotos).then_some(state)
+    });
+    Book {
+        sizes,
+        productions,
+        actions,
+        gotos: gotos.collect(),
+    }
+}
+
+fn wild_action(random: &mut Random, taste: Taste, sizes: Sizes, terminal: u16) -> Action {
+    let roll = random.below(100);
+    if roll < taste.shifts && terminal > 0 {
+        return Action::Shift(random.below(sizes.states.into()) as u16);
+    }
+    if roll < taste.shifts + taste.reduces && sizes.productions > 0 {
+        return Action::Reduce(random.below(sizes.productions.into()) as u16);
+    }
+    if terminal == 0 && random.percent(50) {
+        return Action::Accept;
+    }
+    Action::Error
+}
+
+/// The book with some numbers of its tables changed to others in range.
+pub fn disturbed(random: &mut Random, book: &Book, changes: usize) -> Book {
+    let mut book = book.clone();
+    let states = book.states();
+    for _ in 0..changes {
+        let state = random.below(states);
+        if random.percent(70) || book.nonterminals() == 0 {
+            let terminal = random.below(book.terminals());
+            let taste = Taste {
+                sizes: book.sizes,
+                longest: 0,
+                shifts: 30,
+                reduces: 50,
+                gotos: 0,
+            };
+            let action = wild_action(random, taste, book.sizes, terminal as u16);
+            let at = state * book.terminals() + terminal;
+            book.actions[at] = action;
+        } else {
+            let at = random.below(book.gotos.len());
+            book.gotos[at] = random.percent(70).then_some(state as u16);
+        }
+    }
+    book
+}

@@ -1,0 +1,70 @@
+//! Books of random grammars: conflicts are settled any way, so they need not be good parsers.
+
+use super::Random;
+use crate::grammar::{Grammar, Rule, Symbol};
+use crate::independent::book::Book;
+use crate::lalr;
+
+/// The most of each in a random grammar.
+#[derive(Clone, Copy)]
+pub struct Scale {
+    pub terminals: usize,
+    pub nonterminals: usize,
+    pub rules: usize,
+    pub length: usize,
+}
+
+pub const SMALL: Scale = Scale {
+    terminals: 4,
+    nonterminals: 4,
+    rules: 8,
+    length: 4,
+};
+
+/// The book of a random grammar; grammars with too many states are passed over.
+pub fn grammar_book(random: &mut Random, scale: Scale) -> Book {
+    loop {
+        let grammar = grammar(random, scale);
+        if let Ok(tables) = lalr::build(&grammar) {
+            return Book::from_cells(&tables.cells).expect("the generator's tables are in range");
+        }
+    }
+}
+
+fn grammar(random: &mut Random, scale: Scale) -> Grammar {
+    let terminals = random.between(1, scale.terminals);
+    let nonterminals = random.between(1, scale.nonterminals);
+    let mut rules = Vec::new();
+    for left in 0..nonterminals {
+        rules.push(rule(random, scale, left, terminals, nonterminals));
+    }
+    while rules.len() < scale.rules && random.percent(80) {
+        let left = random.below(nonterminals);
+        rules.push(rule(random, scale, left, terminals, nonterminals));
+    }
+    Grammar {
+        terminals: vec![String::new(); terminals],
+        nonterminals: vec![String::new(); nonterminals],
+        rules,
+        shift_wins: true,
+    }
+}
+
+fn rule(
+    random: &mut Random,
+    scale: Scale,
+    left: usize,
+    terminals: usize,
+    nonterminals: usize,
+) -> Rule {
+    let length = random.between(0, scale.length);
+    let mut right = Vec::new();
+    for _ in 0..length {
+        right.push(if terminals > 1 && random.percent(55) {
+            Symbol::Terminal(random.between(1, terminals - 1))
+        } else {
+            Symbol::Nonterminal(random.below(nonterminals))
+        });
+    }
+    Rule { left, right }
+}
