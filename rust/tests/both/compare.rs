@@ -8,8 +8,19 @@ use crate::independent::calls::find_all;
 use purlquartz::Refusal;
 use std::fmt::Debug;
 
-/// The refusal that both gave, if any; or how they differ.
-pub type Outcome = Result<Option<Refusal>, String>;
+/// What both answered, in a word: a refusal's number, or the name of the case. Or how they differ.
+pub type Outcome = Result<String, String>;
+
+fn word<A: Debug>(answer: &Result<A, Refusal>) -> String {
+    match answer {
+        Err(refusal) => refusal.number.to_string(),
+        Ok(answer) => {
+            let whole = format!("{answer:?}");
+            let name = whole.split(|sign: char| !sign.is_alphabetic()).next();
+            name.unwrap_or_default().to_string()
+        }
+    }
+}
 
 fn same<A: Debug + PartialEq, M: Memory>(
     call: &str,
@@ -21,7 +32,7 @@ fn same<A: Debug + PartialEq, M: Memory>(
     }
     match subject.1.difference(&expected.1) {
         Some(difference) => Err(format!("{call}: {difference}")),
-        None => Ok(expected.0.err()),
+        None => Ok(word(&expected.0)),
     }
 }
 
@@ -99,7 +110,7 @@ pub fn find_each(subject: &Calls, book: &Book, work: &Lent<u16>, buffer: &Lent<u
         let expected = (cleared.clone(), expected);
         same(&call, (answer, (work, lent)), (Ok(found), expected))?;
     }
-    Ok(None)
+    Ok("each".to_string())
 }
 
 pub fn map(subject: &Calls, cells: &[u16], work: &Lent<u16>, map: &Lent<u16>) -> Outcome {

@@ -31,6 +31,23 @@ pub fn small_taste(random: &mut Random) -> Taste {
     }
 }
 
+/// Sizes in the middle of the limits, with productions of up to 32 symbols.
+pub fn medium_taste(random: &mut Random) -> Taste {
+    let sizes = Sizes {
+        terminals: random.between(2, 10) as u16,
+        nonterminals: random.between(1, 8) as u16,
+        states: random.between(4, 30) as u16,
+        productions: random.between(2, 20) as u16,
+    };
+    Taste {
+        sizes,
+        longest: random.pick(&[2, 3, 5, 8, 32]),
+        shifts: random.between(5, 60),
+        reduces: random.between(5, 60),
+        gotos: random.between(20, 100),
+    }
+}
+
 /// A book with any tables that are in range: states need not be reachable, reductions may break
 /// or go on for ever.
 pub fn wild(random: &mut Random, taste: Taste) -> Book {

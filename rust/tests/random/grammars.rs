@@ -21,6 +21,13 @@ pub const SMALL: Scale = Scale {
     length: 4,
 };
 
+pub const MEDIUM: Scale = Scale {
+    terminals: 10,
+    nonterminals: 8,
+    rules: 20,
+    length: 6,
+};
+
 /// The book of a random grammar; grammars with too many states are passed over.
 pub fn grammar_book(random: &mut Random, scale: Scale) -> Book {
     loop {
