@@ -1,0 +1,223 @@
+/*
+ * Purlquartz: machine-checked tools for the tables of LR(1) parsers.
+ *
+ * A book holds a parser's tables: T terminals (1 to 32), N nonterminals (0 to 32), S states (1 to
+ * 128) and P productions (0 to 128). In memory it is a row of 16-bit cells, at most 8,453:
+ *
+ *   the form, always 1; T; N; S; P
+ *   for each production its left side and its length, 0 to 32
+ *   for each state, for each terminal an action: 0 error, 1 accept, 2 + 2 s shift to state s,
+ *     3 + 2 p reduce production p
+ *   for each state, for each nonterminal a goto: 0 none, else the state + 1
+ *
+ * In bytes each number takes one to three, the fewest possible: groups of seven bits, lowest
+ * first, the top bit set on all but the last. The longest book has 16,647 bytes. Terminal 0 is
+ * the end mark: no state shifts it, and accept stands only under it. The start is state 0.
+ *
+ * Slices. A slice is a pointer and a count of elements. The pointer must not be null, even when
+ * the count is 0, and must be good for the count. Slices that are written to (not const) must
+ * overlap no other. Nothing is allocated, and no pointer is kept after a call.
+ *
+ * Answers. Every call fills answer[0] to answer[5]: answer[0] is the kind, the others its values,
+ * unused ones 0. Kind 0 is a refusal, answer[1] its number and answer[2] its place; then no lent
+ * memory but the answer has changed. All inputs are checked before anything else happens, in the
+ * order: the book's cells or bytes; the list or sentence; then 10, 11, 13, 12.
+ *
+ *   number  cause                                              place
+ *   1   a book or list stops before a due number is complete   where the missing number begins
+ *   2   a number is padded, too wide, or over 65,535           its first byte
+ *       (in bytes only)
+ *   3   the form is not 1                                      the number's offset or index
+ *   4   T, N, S or P outside its range                         the number's offset or index
+ *   5   a left side, length, action or goto outside its        the number's offset or index
+ *       range, a shift under terminal 0, or accept under
+ *       another terminal
+ *   6   something follows the last number                      where it begins
+ *   7   a symbol is 0, or T or more                            its index; in a list, its offset
+ *   8   a sentence has over 1,000 symbols                      0; in a list, the length's offset
+ *   9   a list has over 128 entries                            the count's offset
+ *   10  the state is S or more                                 0
+ *   11  the lookahead is T or more                             0; in a list, its offset
+ *   12  an output is too short                                 0
+ *   13  work or stack cells are too few                        0
+ *
+ * Offsets count bytes, indices count cells or symbols, all from 0.
+ */
+#ifndef PURLQUARTZ_H
+#define PURLQUARTZ_H
+
+#include <stddef.h>
+#include <stdint.h>
+
+#ifdef __cplusplus
+extern "C" {
+#endif
+
+#define PURLQUARTZ_MOST_CELLS 8453u
+#define PURLQUARTZ_MOST_BYTES 16647u
+#define PURLQUARTZ_SENTENCE_BYTES 1000u
+#define PURLQUARTZ_STACK_CELLS 1024u
+/* Map cells that are no length. */
+#define PURLQUARTZ_LONG 1001u
+#define PURLQUARTZ_UNREACHED 1002u
+
+/* answer[0] of every refusal. */
+#define PURLQUARTZ_REFUSED 0u
+
+/* answer[0] of purlquartz_run, and the ending in a wrong entry's judgement. */
+#define PURLQUARTZ_ACCEPTED 1u
+#define PURLQUARTZ_ERROR 2u
+#define PURLQUARTZ_BROKEN 3u
+#define PURLQUARTZ_PASSED 4u
+#define PURLQUARTZ_DEEP 5u
+#define PURLQUARTZ_SPINNING 6u
+
+/* answer[0] of purlquartz_find. */
+#define PURLQUARTZ_FOUND_UNREACHED 1u
+#define PURLQUARTZ_FOUND_LONG 2u
+#define PURLQUARTZ_FOUND_SENTENCE 3u
+
+/* answer[0] of purlquartz_entry. */
+#define PURLQUARTZ_ENTRY_FOUND 1u
+#define PURLQUARTZ_ENTRY_NONE 2u
+
+/* answer[0] of purlquartz_judge. */
+#define PURLQUARTZ_COMPLETE 1u
+#define PURLQUARTZ_UNCOVERED 2u
+#define PURLQUARTZ_REPEAT 3u
+#define PURLQUARTZ_WRONG 4u
+
+/* How many work cells the finder needs: T * T * S * (N + 8). */
+#define PURLQUARTZ_WORK_CELLS(t, n, s) \
+    ((size_t)(t) * (size_t)(t) * (size_t)(s) * ((size_t)(n) + 8u))
+
+/*
+ * Reads a book from bytes into the first lent cells; the cells after them keep their values.
+ * Kind 1: answer[1] is how many cells were written.
+ * Refusals: 1 to 6; 12 if the book has more cells than are lent.
+ */
+void purlquartz_read(const uint8_t *bytes, size_t byte_count,
+                     uint16_t *cells, size_t cell_count,
+                     uint64_t answer[6]);
+
+/*
+ * Checks the cells of a book.
+ * Kind 1: answer[1] to answer[4] are T, N, S and P.
+ * Refusals: 1, 3, 4, 5, 6. Every call that takes cells gives these first.
+ */
+void purlquartz_check(const uint16_t *cells, size_t cell_count,
+                      uint64_t answer[6]);
+
+/*
+ * Writes the book that the cells hold to the first lent bytes; the bytes after them keep their
+ * values.
+ * Kind 1: answer[1] is how many bytes were written.
+ * Refusals: those of purlquartz_check; 12 if the book has more bytes than are lent.
+ */
+void purlquartz_write(const uint16_t *cells, size_t cell_count,
+                      uint8_t *bytes, size_t byte_count,
+                      uint64_t answer[6]);
+
+/*
+ * Runs a sentence, symbols from 1 to T - 1 and at most 1,000 of them, with a lookahead. The first
+ * 1,024 stack cells then hold the stack before the step that was not taken, bottom first, then
+ * zeros; the cells after them keep their values.
+ * Kinds: 1 accepted; 2 error; 3 broken, a reduction could not be done; 4 passed, the sentence is
+ * in and the lookahead would be shifted; 5 deep, a push would make 1,025 states; 6 spinning, 4,096
+ * reductions were done since the last shift or the start and a further one can be done. For each,
+ * answer[1] is the top state, answer[2] the symbol looked at, answer[3] how many were taken in.
+ * Refusals: those of purlquartz_check; 8; 7; 11; 13 if fewer than 1,024 stack cells are lent.
+ */
+void purlquartz_run(const uint16_t *cells, size_t cell_count,
+                    const uint8_t *sentence, size_t sentence_count,
+                    uint16_t lookahead,
+                    uint16_t *stack, size_t stack_count,
+                    uint64_t answer[6]);
+
+/*
+ * Finds the shortest sentence that brings the machine to the state with the lookahead, and of
+ * several the earliest in order: the smaller terminal number at the first difference. It stands at
+ * the front of the buffer; the bytes after it, or all where there is none, keep their values. The
+ * first T * T * S * (N + 8) work cells are zero afterwards.
+ * Kinds: 1 unreached, no sequence reaches the pair, however long; 2 long, some sequence does, but
+ * none of at most 1,000 symbols; 3 sentence, answer[1] is its length.
+ * Refusals: those of purlquartz_check; 10; 11; 13 if fewer work cells are lent; 12 if the buffer
+ * has fewer than 1,000 bytes.
+ */
+void purlquartz_find(const uint16_t *cells, size_t cell_count,
+                     uint16_t state, uint16_t lookahead,
+                     uint16_t *work, size_t work_count,
+                     uint8_t *buffer, size_t buffer_count,
+                     uint64_t answer[6]);
+
+/*
+ * Writes the whole map to the first S * T lent cells, by state, then terminal: the least length of
+ * a sentence that reaches the pair, 1,001 for long, 1,002 for unreached. The cells after them keep
+ * their values; the work cells are left as by purlquartz_find.
+ * Kind 1: answer[1] is S * T.
+ * Refusals: those of purlquartz_check; 13 if too few work cells are lent; 12 if fewer than S * T
+ * map cells are lent.
+ */
+void purlquartz_map(const uint16_t *cells, size_t cell_count,
+                    uint16_t *work, size_t work_count,
+                    uint16_t *map, size_t map_count,
+                    uint64_t answer[6]);
+
+/*
+ * Writes for each state the set of lookaheads that it is reached with, long ones too, bit z for
+ * terminal z, and beside it how many there are. The cells after the first S keep their values; the
+ * work cells are left as by purlquartz_find.
+ * Kind 1: answer[1] is S.
+ * Refusals: those of purlquartz_check; 13 if too few work cells are lent; 12 if fewer than S cells
+ * are lent for the sets or for the sizes.
+ */
+void purlquartz_sets(const uint16_t *cells, size_t cell_count,
+                     uint16_t *work, size_t work_count,
+                     uint32_t *sets, size_t set_count,
+                     uint32_t *sizes, size_t size_count,
+                     uint64_t answer[6]);
+
+/*
+ * Checks a list of sentences against a book. A list is numbers as in a book: the count of
+ * entries, then for each its length, its symbols and its lookahead.
+ * Kind 1: answer[1] is the offset of the first entry, answer[2] how many there are.
+ * Refusals: those of purlquartz_check; then, in reading order, 1, 2, 9 for the count; for each
+ * entry 1, 2, 8 for its length, 1, 2, 7 for each symbol, 1, 2, 11 for its lookahead; 6.
+ */
+void purlquartz_check_list(const uint16_t *cells, size_t cell_count,
+                           const uint8_t *list, size_t list_count,
+                           uint64_t answer[6]);
+
+/*
+ * Looks up one entry of a list by its index from 0.
+ * Kinds: 1 found, answer[1] is the offset of its symbols in the list, answer[2] how many there
+ * are, one a byte, answer[3] its lookahead; 2 none, the list has no such entry.
+ * Refusals: those of purlquartz_check_list.
+ */
+void purlquartz_entry(const uint16_t *cells, size_t cell_count,
+                      const uint8_t *list, size_t list_count,
+                      size_t index,
+                      uint64_t answer[6]);
+
+/*
+ * Judges a list. An entry is wrong if its run does not end as error with the whole sentence in,
+ * and repeats if it ends in the state of an earlier one; the first such entry is told. Without one
+ * the list is complete if every state with a failing pair has its entry. A failing pair is a
+ * reached one, long or not, whose action is error. The work cells are left as by purlquartz_find,
+ * and the first 1,024 stack cells are zero afterwards.
+ * Kinds: 1 complete; 2 uncovered, answer[1] is the lowest state with a failing pair and no entry;
+ * 3 repeat, answer[1] is the entry; 4 wrong, answer[1] is the entry, answer[2] the kind of its
+ * run's ending as in purlquartz_run, answer[3] to answer[5] its state, symbol and taken.
+ * Refusals: those of purlquartz_check_list; 13 if too few work or stack cells are lent.
+ */
+void purlquartz_judge(const uint16_t *cells, size_t cell_count,
+                      const uint8_t *list, size_t list_count,
+                      uint16_t *work, size_t work_count,
+                      uint16_t *stack, size_t stack_count,
+                      uint64_t answer[6]);
+
+#ifdef __cplusplus
+}
+#endif
+
+#endif
