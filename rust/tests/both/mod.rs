@@ -9,6 +9,7 @@ use purlquartz::*;
 
 type Refused<T> = Result<T, Refusal>;
 
+#[allow(clippy::type_complexity)] // each type is spelled as its call's
 pub struct Calls {
     pub read: fn(&[u8], &mut [u16]) -> Refused<usize>,
     pub check: fn(&[u16]) -> Refused<Sizes>,

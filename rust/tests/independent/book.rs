@@ -152,7 +152,7 @@ fn decode_action(value: u16, terminal: u16, sizes: Sizes) -> Option<Action> {
     match value {
         0 => Some(Action::Error),
         1 => end_mark.then_some(Action::Accept),
-        _ if value % 2 == 0 => {
+        _ if value & 1 == 0 => {
             let state = (value - 2) / 2;
             (state < sizes.states && !end_mark).then_some(Action::Shift(state))
         }

@@ -122,10 +122,9 @@ impl<'a> Words<'a> {
         let mut word = Vec::new();
         self.each_split(fact, |front, rest| {
             word.clear();
-            if self.append(front, &mut word) && self.append(rest, &mut word) {
-                if best.as_ref().is_none_or(|best| word < *best) {
-                    best = Some(word.clone());
-                }
+            let known = self.append(front, &mut word) && self.append(rest, &mut word);
+            if known && best.as_ref().is_none_or(|best| word < *best) {
+                best = Some(word.clone());
             }
         });
         best

@@ -1,0 +1,158 @@
+//! Times the library's calls beside the independent implementation, in the same run, and prints
+//! the times and their ratios as Markdown tables.
+//!
+//! `cargo bench` for all; `cargo bench -- quick` leaves out the largest books.
+
+#[path = "../../tests/both/mod.rs"]
+mod both;
+#[allow(dead_code)]
+#[path = "../../examples/make_book/grammar.rs"]
+mod grammar;
+#[path = "../../tests/independent/mod.rs"]
+mod independent;
+#[allow(dead_code)]
+#[path = "../../examples/make_book/lalr.rs"]
+mod lalr;
+mod measure;
+#[path = "../../tests/random/mod.rs"]
+mod random;
+
+use independent::book::Book;
+use measure::{ratio, shown, Subject};
+use purlquartz::Sizes;
+use random::books::{wild, Taste};
+use random::Random;
+use std::{env, fs};
+
+const SHIPPED: [&str; 7] = [
+    "bracket",
+    "double",
+    "arithmetic",
+    "pattern",
+    "json",
+    "statements",
+    "program",
+];
+
+fn main() {
+    let quick = env::args().any(|argument| argument == "quick");
+    println!("Each cell has the library's time, the independent implementation's, and how many");
+    println!("times as long the library takes. `≈` marks a total that is scaled up from a sample.");
+    println!();
+    print_books(quick);
+    println!();
+    print_growth(quick);
+}
+
+fn shipped(name: &str) -> Book {
+    let file = format!("{}/../books/{name}.book", env!("CARGO_MANIFEST_DIR"));
+    Book::from_bytes(&fs::read(file).expect("the book is shipped")).expect("a good book")
+}
+
+/// A random book where most cells are filled: much can be reached in many ways.
+fn dense(seed: u64, terminals: u16, nonterminals: u16, states: u16) -> Book {
+    let taste = Taste {
+        sizes: Sizes {
+            terminals,
+            nonterminals,
+            states,
+            productions: states.max(nonterminals),
+        },
+        longest: 3,
+        shifts: 30,
+        reduces: 40,
+        gotos: 80,
+    };
+    wild(&mut Random::new(seed), taste)
+}
+
+fn print_books(quick: bool) {
+    println!(
+        "| book | T | N | S | P | check | map | one pair | failing pairs | all of them | judge |"
+    );
+    println!("|---|---|---|---|---|---|---|---|---|---|---|");
+    for name in SHIPPED {
+        print_book(name, &shipped(name));
+    }
+    let sizes = [(4, 4, 16), (8, 8, 32), (16, 16, 64), (32, 32, 128)];
+    for (terminals, nonterminals, states) in sizes {
+        if !quick || states < 64 {
+            print_book("random", &dense(1, terminals, nonterminals, states));
+        }
+    }
+}
+
+fn print_book(name: &str, book: &Book) {
+    let library = Subject::new(&both::LIBRARY, book);
+    let independent = Subject::new(&both::INDEPENDENT, book);
+    let pair = library.farthest_failing();
+    let failing = library.failing.len();
+    let cells = [
+        both_times(library.check(), independent.check()),
+        both_times(library.map(), independent.map()),
+        both_times(library.find(pair), independent.find(pair)),
+        failing.to_string(),
+        both_times(library.find_failing(), independent.find_failing()),
+        both_times(library.judge(), independent.judge()),
+    ];
+    let sizes = book.sizes;
+    println!(
+        "| {name} | {} | {} | {} | {} | {} |",
+        sizes.terminals,
+        sizes.nonterminals,
+        sizes.states,
+        sizes.productions,
+        cells.join(" | ")
+    );
+}
+
+fn both_times(library: measure::Time, independent: measure::Time) -> String {
+    let ratio = ratio(library, independent);
+    format!("{} / {} = {ratio}", shown(library), shown(independent))
+}
+
+/// How the map's time grows when one size is doubled and the others stay.
+fn print_growth(quick: bool) {
+    println!("| T | N | S | map | growth of the library | growth of the independent |");
+    println!("|---|---|---|---|---|---|");
+    let most = if quick { 2 } else { 4 };
+    for doubled in 0..3 {
+        let mut before = None;
+        for factor in [1, 2, 4].into_iter().filter(|&factor| factor <= most) {
+            let mut sizes = [8, 8, 32];
+            sizes[doubled] *= factor;
+            let times = map_times(sizes);
+            print_growth_row(sizes, times, before);
+            before = Some(times);
+        }
+    }
+}
+
+/// The map's times, summed over a few books of the same sizes.
+fn map_times([terminals, nonterminals, states]: [u16; 3]) -> [measure::Time; 2] {
+    let mut sums = [measure::Time::default(); 2];
+    for seed in 1..=3 {
+        let book = dense(seed, terminals, nonterminals, states);
+        for (sum, calls) in sums.iter_mut().zip([&both::LIBRARY, &both::INDEPENDENT]) {
+            sum.seconds += Subject::new(calls, &book).map().seconds / 3.0;
+        }
+    }
+    sums
+}
+
+fn print_growth_row(
+    [terminals, nonterminals, states]: [u16; 3],
+    times: [measure::Time; 2],
+    before: Option<[measure::Time; 2]>,
+) {
+    let growth = |which: usize| match before {
+        Some(before) => format!("× {:.1}", times[which].seconds / before[which].seconds),
+        None => String::new(),
+    };
+    println!(
+        "| {terminals} | {nonterminals} | {states} | {} | {} | {} |",
+        both_times(times[0], times[1]),
+        growth(0),
+        growth(1)
+    );
+}

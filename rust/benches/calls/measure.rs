@@ -1,0 +1,162 @@
+//! Times of single calls on one book.
+
+use crate::both::Calls;
+use crate::independent::book::{Action, Book};
+use crate::independent::calls::map_of;
+use crate::random::lists::{covering, encode_list};
+use crate::random::Random;
+use purlquartz::{LONG, SENTENCE_BYTES, STACK_CELLS, UNREACHED};
+use std::hint::black_box;
+use std::time::{Duration, Instant};
+
+/// A short call is repeated for so long.
+const REPEAT: Duration = Duration::from_millis(100);
+/// The calls for all failing pairs may take so long before the rest is left out.
+const PATIENCE: Duration = Duration::from_secs(20);
+
+#[derive(Clone, Copy, Default)]
+pub struct Time {
+    pub seconds: f64,
+    /// Scaled up from a sample.
+    pub sampled: bool,
+}
+
+/// The mean of one call's time over as many calls as fit.
+fn timed(mut call: impl FnMut()) -> Time {
+    let start = Instant::now();
+    let mut calls = 0;
+    while calls == 0 || start.elapsed() < REPEAT {
+        call();
+        calls += 1;
+    }
+    Time {
+        seconds: start.elapsed().as_secs_f64() / f64::from(calls),
+        sampled: false,
+    }
+}
+
+pub struct Subject<'a> {
+    calls: &'a Calls,
+    cells: Vec<u16>,
+    map: Vec<u16>,
+    work_cells: usize,
+    list: Vec<u8>,
+    /// The failing pairs.
+    pub failing: Vec<(u16, u16)>,
+}
+
+impl<'a> Subject<'a> {
+    pub fn new(calls: &'a Calls, book: &Book) -> Subject<'a> {
+        let map = map_of(book);
+        let pairs = (0..map.len()).filter(|&pair| {
+            let (state, terminal) = (pair / book.terminals(), pair % book.terminals());
+            map[pair] != UNREACHED && book.action(state, terminal) == Action::Error
+        });
+        let terminals = book.terminals();
+        let pairs = pairs.map(|pair| ((pair / terminals) as u16, (pair % terminals) as u16));
+        Subject {
+            calls,
+            cells: book.cells(),
+            work_cells: book.sizes.work_cells(),
+            list: encode_list(&covering(&mut Random::new(1), book)),
+            failing: pairs.collect(),
+            map,
+        }
+    }
+
+    /// The failing pair with the longest sentence; (0, 0) if nothing fails.
+    pub fn farthest_failing(&self) -> (u16, u16) {
+        let terminals = usize::from(self.cells[1]);
+        let length = |&(state, terminal): &(u16, u16)| {
+            self.map[usize::from(state) * terminals + usize::from(terminal)]
+        };
+        let told = self.failing.iter().filter(|pair| length(pair) < LONG);
+        told.max_by_key(|pair| length(pair))
+            .copied()
+            .unwrap_or((0, 0))
+    }
+
+    pub fn check(&self) -> Time {
+        timed(|| {
+            black_box((self.calls.check)(&self.cells)).expect("a good book");
+        })
+    }
+
+    pub fn map(&self) -> Time {
+        let mut work = vec![0; self.work_cells];
+        let mut map = vec![0; self.map.len()];
+        let time = timed(|| {
+            black_box((self.calls.map)(&self.cells, &mut work, &mut map)).expect("a map");
+        });
+        assert_eq!(map, self.map, "a wrong map has no time");
+        time
+    }
+
+    pub fn find(&self, (state, lookahead): (u16, u16)) -> Time {
+        let mut work = vec![0; self.work_cells];
+        let mut buffer = [0; SENTENCE_BYTES];
+        timed(|| {
+            let found = (self.calls.find)(&self.cells, state, lookahead, &mut work, &mut buffer);
+            black_box(found).expect("an answer");
+        })
+    }
+
+    /// One call for each failing pair. Pairs are taken in strides, so that what fits into the time
+    /// is spread over all states.
+    pub fn find_failing(&self) -> Time {
+        let mut work = vec![0; self.work_cells];
+        let mut buffer = [0; SENTENCE_BYTES];
+        let count = self.failing.len();
+        let stride = (1..).map(|step| count * 5 / 8 + step);
+        let stride = stride
+            .take(count)
+            .find(|&stride| coprime(stride, count))
+            .unwrap_or(1);
+        let start = Instant::now();
+        let mut done = 0;
+        while done < count && start.elapsed() < PATIENCE {
+            let (state, lookahead) = self.failing[done * stride % count];
+            let found = (self.calls.find)(&self.cells, state, lookahead, &mut work, &mut buffer);
+            black_box(found).expect("an answer");
+            done += 1;
+        }
+        let scale = count as f64 / done.max(1) as f64;
+        Time {
+            seconds: start.elapsed().as_secs_f64() * scale,
+            sampled: done < count,
+        }
+    }
+
+    pub fn judge(&self) -> Time {
+        let mut work = vec![0; self.work_cells];
+        let mut stack = [0; STACK_CELLS];
+        timed(|| {
+            let judged = (self.calls.judge)(&self.cells, &self.list, &mut work, &mut stack);
+            black_box(judged).expect("a judgement");
+        })
+    }
+}
+
+fn coprime(one: usize, other: usize) -> bool {
+    match other {
+        0 => one == 1,
+        _ => coprime(other, one % other),
+    }
+}
+
+/// A time with three digits, or so.
+pub fn shown(time: Time) -> String {
+    let mark = if time.sampled { "≈ " } else { "" };
+    let units = [("s", 1.0), ("ms", 1e-3), ("µs", 1e-6), ("ns", 1e-9)];
+    let fits = |&&(_, size): &&(&str, f64)| time.seconds >= size;
+    let (unit, size) = units.iter().find(fits).unwrap_or(&units[3]);
+    let value = time.seconds / size;
+    let digits = if value < 10.0 { 1 } else { 0 };
+    format!("{mark}{value:.digits$} {unit}")
+}
+
+pub fn ratio(library: Time, independent: Time) -> String {
+    let ratio = library.seconds / independent.seconds;
+    let digits = if ratio < 10.0 { 2 } else { 0 };
+    format!("{ratio:.digits$}")
+}
