@@ -19,7 +19,7 @@ use independent::book::Book;
 use purlquartz::*;
 use random::books::{disturbed, medium_taste, small_taste, wild};
 use random::bytes::{damaged, damaged_cells};
-use random::grammars::{grammar_book, MEDIUM, SMALL};
+use random::grammars::{grammar_book, long_book, MEDIUM, SMALL};
 use random::lists::{damaged_list, encode_list, lines, sentence, taken_sentence};
 use random::Random;
 use std::collections::BTreeMap;
@@ -250,6 +250,21 @@ fn finder_of_medium_books() {
     tally.expect("find", "Sentence Unreached 10 11 12 13");
     tally.expect("map", " 12 13");
     tally.expect("sets", " 12 13");
+}
+
+#[test]
+fn books_of_long_sentences() {
+    let mut random = Random::new(18);
+    let mut tally = Tally::default();
+    for _ in 0..80 {
+        let book = long_book(&mut random);
+        let cells = book.cells();
+        compare_finder(&mut random, &mut tally, &book, &cells, 8);
+        let list = encode_list(&lines(&mut random, &book));
+        compare_list(&mut random, &mut tally, &book, &cells, &list);
+    }
+    tally.expect("find", "Sentence Long Unreached");
+    tally.expect("judge", "Complete Uncovered Repeat Wrong");
 }
 
 fn shipped(name: &str) -> Book {

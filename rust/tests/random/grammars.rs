@@ -38,6 +38,37 @@ pub fn grammar_book(random: &mut Random, scale: Scale) -> Book {
     }
 }
 
+/// A book whose sentences have some hundred symbols, or over 1,000: each nonterminal is some copies
+/// of the next one, or a few terminals instead.
+pub fn long_book(random: &mut Random) -> Book {
+    let levels = random.between(2, 6);
+    let terminals = random.between(2, 4);
+    let mut rules = vec![Rule {
+        left: 0,
+        right: vec![Symbol::Nonterminal(1), Symbol::Terminal(1)],
+    }];
+    for left in 1..=levels {
+        let inner = match left < levels {
+            true => Symbol::Nonterminal(left + 1),
+            false => Symbol::Terminal(random.between(1, terminals - 1)),
+        };
+        let right = vec![inner; random.between(2, 9)];
+        rules.push(Rule { left, right });
+        if random.percent(25) {
+            let right = vec![Symbol::Terminal(terminals - 1); random.between(0, 12)];
+            rules.push(Rule { left, right });
+        }
+    }
+    let grammar = Grammar {
+        terminals: vec![String::new(); terminals],
+        nonterminals: vec![String::new(); levels + 1],
+        rules,
+        shift_wins: true,
+    };
+    let tables = lalr::build(&grammar).expect("within the limits");
+    Book::from_cells(&tables.cells).expect("the generator's tables are in range")
+}
+
 fn grammar(random: &mut Random, scale: Scale) -> Grammar {
     let terminals = random.between(1, scale.terminals);
     let nonterminals = random.between(1, scale.nonterminals);
