@@ -17,7 +17,7 @@ use both::lent::Lent;
 use both::{Calls, INDEPENDENT, LIBRARY};
 use independent::book::Book;
 use purlquartz::*;
-use random::books::{disturbed, medium_taste, small_taste, wild};
+use random::books::{disturbed, large_taste, medium_taste, small_taste, wild};
 use random::bytes::{damaged, damaged_cells};
 use random::grammars::{grammar_book, long_book, MEDIUM, SMALL};
 use random::lists::{damaged_list, encode_list, lines, sentence, taken_sentence};
@@ -106,7 +106,7 @@ fn some_number(random: &mut Random, bound: u16) -> u16 {
 fn books_in_bytes() {
     let mut random = Random::new(11);
     let mut tally = Tally::default();
-    for round in 0..6_000 {
+    for round in 0..30_000 {
         let book = match round % 20 {
             0 => medium_book(&mut random),
             _ => small_book(&mut random),
@@ -132,7 +132,7 @@ fn books_in_bytes() {
 fn books_in_cells() {
     let mut random = Random::new(12);
     let mut tally = Tally::default();
-    for round in 0..6_000 {
+    for round in 0..30_000 {
         let book = match round % 20 {
             0 => medium_book(&mut random),
             _ => small_book(&mut random),
@@ -174,7 +174,7 @@ fn some_sentence(random: &mut Random, book: &Book) -> Vec<u8> {
 fn runs() {
     let mut random = Random::new(13);
     let mut tally = Tally::default();
-    for _ in 0..2_500 {
+    for _ in 0..15_000 {
         let book = small_book(&mut random);
         let cells = some_cells(&mut random, &book);
         for _ in 0..8 {
@@ -228,7 +228,7 @@ fn compare_each_pair(random: &mut Random, tally: &mut Tally, book: &Book) {
 fn finder_of_small_books() {
     let mut random = Random::new(14);
     let mut tally = Tally::default();
-    for _ in 0..2_500 {
+    for _ in 0..20_000 {
         let book = small_book(&mut random);
         let cells = some_cells(&mut random, &book);
         compare_finder(&mut random, &mut tally, &book, &cells, 3);
@@ -243,7 +243,7 @@ fn finder_of_small_books() {
 fn finder_of_medium_books() {
     let mut random = Random::new(15);
     let mut tally = Tally::default();
-    for _ in 0..150 {
+    for _ in 0..1_500 {
         let book = medium_book(&mut random);
         compare_finder(&mut random, &mut tally, &book, &book.cells(), 4);
     }
@@ -256,7 +256,7 @@ fn finder_of_medium_books() {
 fn books_of_long_sentences() {
     let mut random = Random::new(18);
     let mut tally = Tally::default();
-    for _ in 0..80 {
+    for _ in 0..300 {
         let book = long_book(&mut random);
         let cells = book.cells();
         compare_finder(&mut random, &mut tally, &book, &cells, 8);
@@ -286,10 +286,21 @@ fn finder_of_shipped_books() {
     ] {
         compare_each_pair(&mut random, &mut tally, &shipped(name));
     }
-    for name in ["arithmetic", "statements", "program"] {
-        let book = shipped(name);
-        compare_finder(&mut random, &mut tally, &book, &book.cells(), 20);
+    let program = shipped("program");
+    compare_finder(&mut random, &mut tally, &program, &program.cells(), 60);
+    tally.expect("find", "Sentence Unreached");
+}
+
+#[test]
+fn finder_of_large_books() {
+    let mut random = Random::new(19);
+    let mut tally = Tally::default();
+    for _ in 0..12 {
+        let taste = large_taste(&mut random);
+        let book = wild(&mut random, taste);
+        compare_finder(&mut random, &mut tally, &book, &book.cells(), 2);
     }
+    tally.expect("map", "");
 }
 
 /// Checks one list in every way.
@@ -313,7 +324,7 @@ fn compare_list(random: &mut Random, tally: &mut Tally, book: &Book, cells: &[u1
 fn lists() {
     let mut random = Random::new(17);
     let mut tally = Tally::default();
-    for _ in 0..3_000 {
+    for _ in 0..30_000 {
         let book = small_book(&mut random);
         let cells = some_cells(&mut random, &book);
         let lines = lines(&mut random, &book);

@@ -10,7 +10,9 @@ use std::hint::black_box;
 use std::time::{Duration, Instant};
 
 /// A short call is repeated for so long.
-const REPEAT: Duration = Duration::from_millis(100);
+const REPEAT: Duration = Duration::from_millis(200);
+/// A batch of calls takes about so long.
+const BATCH: Duration = Duration::from_micros(100);
 /// The calls for all failing pairs may take so long before the rest is left out.
 const PATIENCE: Duration = Duration::from_secs(20);
 
@@ -21,16 +23,23 @@ pub struct Time {
     pub sampled: bool,
 }
 
-/// The mean of one call's time over as many calls as fit.
+/// The least time of one call, so that other work on the machine counts little. Very short calls
+/// are timed by the batch.
 fn timed(mut call: impl FnMut()) -> Time {
     let start = Instant::now();
-    let mut calls = 0;
-    while calls == 0 || start.elapsed() < REPEAT {
-        call();
-        calls += 1;
+    call();
+    let first = start.elapsed();
+    let batch = (BATCH.as_nanos() / first.as_nanos().max(1)).max(1) as u32;
+    let mut least = first;
+    while start.elapsed() < REPEAT {
+        let batch_start = Instant::now();
+        for _ in 0..batch {
+            call();
+        }
+        least = least.min(batch_start.elapsed() / batch);
     }
     Time {
-        seconds: start.elapsed().as_secs_f64() / f64::from(calls),
+        seconds: least.as_secs_f64(),
         sampled: false,
     }
 }

@@ -48,6 +48,23 @@ pub fn medium_taste(random: &mut Random) -> Taste {
     }
 }
 
+/// Sizes up to the limits. Productions are short, or few reductions could be done.
+pub fn large_taste(random: &mut Random) -> Taste {
+    let sizes = Sizes {
+        terminals: random.between(16, 32) as u16,
+        nonterminals: random.between(8, 32) as u16,
+        states: random.between(40, 128) as u16,
+        productions: random.between(30, 128) as u16,
+    };
+    Taste {
+        sizes,
+        longest: random.between(1, 3),
+        shifts: random.between(5, 30),
+        reduces: random.between(20, 60),
+        gotos: random.between(10, 80),
+    }
+}
+
 /// A book with any tables that are in range: states need not be reachable, reductions may break
 /// or go on for ever.
 pub fn wild(random: &mut Random, taste: Taste) -> Book {
