@@ -11,6 +11,8 @@ use std::time::{Duration, Instant};
 
 /// A short call is repeated for so long.
 const REPEAT: Duration = Duration::from_millis(200);
+/// A long call is made so many times.
+const BATCHES: usize = 3;
 /// A batch of calls takes about so long.
 const BATCH: Duration = Duration::from_micros(100);
 /// The calls for all failing pairs may take so long before the rest is left out.
@@ -31,7 +33,9 @@ fn timed(mut call: impl FnMut()) -> Time {
     let first = start.elapsed();
     let batch = (BATCH.as_nanos() / first.as_nanos().max(1)).max(1) as u32;
     let mut least = first;
-    while start.elapsed() < REPEAT {
+    let mut batches = 1;
+    while start.elapsed() < REPEAT || batches < BATCHES {
+        batches += 1;
         let batch_start = Instant::now();
         for _ in 0..batch {
             call();
