@@ -5,8 +5,10 @@
 //! back. All memory is lent by the caller. Each call checks its inputs whole before it writes
 //! anything, so that a refused call changes nothing. Refusals come in the order: the book's, the
 //! list's or sentence's, then 10, 11, 13, 12.
+#![deny(unsafe_code)]
 
 mod answers;
+#[allow(unsafe_code)]
 mod foreign;
 
 pub use answers::*;
