@@ -62,7 +62,8 @@ entered i len states ending onward =
     (cond (among (stateOf ending) states) (fault (Repeat i)) (onward (stateOf ending ∷ states)))
     (fault (Wrong i ending))
 
--- 'The judgement takes entries in turn and stops at the first fault, told with its entry's index from 0': from the entry of index i on
+-- 'The judgement takes entries in turn and stops at the first fault, told with its entry's index from 0': from the entry of index i on.
+-- Only a run gives a state an entry, so 'A state whose failing pairs are all long, or fail only past a run's limits, stays uncovered'
 unfoldable pub course : Tables → List ℕ → ℕ → List ℕ → List Entry → Course
 course B bytes i states [] = clean states
 course B bytes i states (e ∷ es) =

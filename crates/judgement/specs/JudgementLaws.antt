@@ -1,13 +1,24 @@
--- Laws of the judgement: at most one is right. Assumes nothing.
-use mathlib.Core.Bool.{Bool, true, false}
+-- Laws of the judgement: at most one is right, and a state has an entry only by a run. Assumes nothing.
+use mathlib.Core.Bool.{Bool, true, false, cond, _||_, false≢true}
+use mathlib.Core.List.{List, [], _∷_}
+use mathlib.Core.Logic.{_⊎_, inl, inr, ⊎-elim}
 use mathlib.Core.Path.{_≡_, refl}
-use Prim.Native.Nat.{ℕ, _<_}
+use Prim.Native.Nat.{ℕ, suc, _<_}
 use native.Mathlib.Omega.{arith}
-use Rattle.book.specs.Tables.{Tables}
+use borrow.Author.Tests.{eqb-true}
+use lib.Dec.{eqb}
+use lib.ListN.{length}
+use Rattle.book.specs.Tables.{Tables, tablesOf}
 use Rattle.machine.specs.MachineLaws.{clash}
+use Rattle.machine.specs.declared.Ending.{Ending}
+use Rattle.machine.specs.declared.Ending.the-variants.{Accepted, Error, Broken, Passed, Deep, Spinning}
+use Rattle.machine.specs.declared.Stop.{Stop}
+use Rattle.lists.specs.Entry.{sentence}
+use Rattle.lists.specs.declared.Entry.{Entry}
 use Rattle.judgement.specs.CoverageLaws.{lowest-same}
-use Rattle.judgement.specs.Judgement.{Decides, uncovered, Course, Judged, faulty, faultless}
+use Rattle.judgement.specs.Judgement.{runOf, isRight, stateOf, among, Course, fault, clean, course, Decides, uncovered, Judged, faulty, faultless, Judges, refuses, judges}
 use Rattle.judgement.specs.declared.Judgement.{Judgement}
+use Rattle.judgement.specs.declared.Judgement.the-variants.{Wrong, Repeat}
 
 -- two functions that decide which states fail agree
 decides-same : {B : Tables} {f g : ℕ → Bool} → Decides B f → Decides B g → (s : ℕ) → s < B .states → f s ≡ g s
@@ -26,3 +37,59 @@ one-judgement (faultless states fails f x) (faulty k e) = absurd (clash cc)
 one-judgement {B} (faultless states f e x) (faultless others g k y) =
     let same : states ≡ others = cc in
     rw same (lowest-same (uncovered f others) (uncovered g others) (B .states) 0 (λ s h. rw (decides-same x y s (omega arith))))
+
+-- .. and so what `judge` answers is one
+pub one-answer : {cells bytes work stack w s v t : List ℕ} {j k : Judgement} → Judges cells bytes work stack j w s → Judges cells bytes work stack k v t → j ≡ k
+one-answer (refuses r e) (refuses q f) = cc
+one-answer (refuses r e) (judges es end k f x) = absurd (clash cc)
+one-answer (judges es end j e x) (refuses q f) = absurd (clash cc)
+one-answer {cells} {bytes} {j} (judges es end _ e x) (judges others last _ f y) =
+    let same : es ≡ others = cc in
+    let z : Judged (tablesOf cells) (course (tablesOf cells) bytes 0 [] others) j = rw same at x in
+    one-judgement z y
+
+-- ---- a state has an entry where a run, within its limits, ends in it as error with its whole sentence in
+pub record Ends (B : Tables) (bytes : List ℕ) (s : ℕ) (e : Entry) : Type 0 where
+  pub stop : Stop
+  pub error : runOf B bytes e ≡ Error stop
+  pub whole : stop .taken ≡ length (sentence bytes e)
+  pub state : stop .state ≡ s
+
+pub data Has (B : Tables) (bytes : List ℕ) (s : ℕ) : List Entry → Type 0 where
+  first : {e : Entry} {es : List Entry} → Ends B bytes s e → Has B bytes s (e ∷ es)
+  later : {e : Entry} {es : List Entry} → Has B bytes s es → Has B bytes s (e ∷ es)
+
+right-ends : (B : Tables) (bytes : List ℕ) (e : Entry) (x : Ending) → runOf B bytes e ≡ x → isRight (length (sentence bytes e)) x ≡ true → Ends B bytes (stateOf x) e
+right-ends B bytes e (Error stop) f r = record { stop = stop; error = f; whole = eqb-true _ _ r; state = refl }
+right-ends B bytes e (Accepted stop) f r = absurd (false≢true r)
+right-ends B bytes e (Broken stop) f r = absurd (false≢true r)
+right-ends B bytes e (Passed stop) f r = absurd (false≢true r)
+right-ends B bytes e (Deep stop) f r = absurd (false≢true r)
+right-ends B bytes e (Spinning stop) f r = absurd (false≢true r)
+
+either : (a b : Bool) → (a || b) ≡ true → (a ≡ true) ⊎ (b ≡ true)
+either true b e = inl refl
+either false b e = inr e
+
+pub clean-has : (B : Tables) (bytes : List ℕ) (s i : ℕ) (states : List ℕ) (es : List Entry) (out : List ℕ) → course B bytes i states es ≡ clean out → among s out ≡ true
+    → (among s states ≡ true) ⊎ Has B bytes s es
+unfolding course
+clean-has B bytes s i states [] out e h = let same : states ≡ out = cc in inl (rw same h)
+clean-has B bytes s i states (x ∷ es) out e h = go (isRight (length (sentence bytes x)) run) refl (among at states) refl e (λ f. clean-has B bytes s (suc i) (at ∷ states) es out f h)
+  where
+    run : Ending
+    run = runOf B bytes x
+
+    at : ℕ
+    at = stateOf run
+
+    here : isRight (length (sentence bytes x)) run ≡ true → (eqb s at ≡ true) ⊎ (among s states ≡ true) → (among s states ≡ true) ⊎ Has B bytes s (x ∷ es)
+    here r (inl f) = let same : s ≡ at = eqb-true s at f in inr (first {e = x} (rw same (right-ends B bytes x run refl r)))
+    here r (inr f) = inl f
+
+    go : (a : Bool) → isRight (length (sentence bytes x)) run ≡ a → (b : Bool) → among at states ≡ b
+        → cond a (cond b (fault (Repeat i)) (course B bytes (suc i) (at ∷ states) es)) (fault (Wrong i run)) ≡ clean out
+        → (course B bytes (suc i) (at ∷ states) es ≡ clean out → (among s (at ∷ states) ≡ true) ⊎ Has B bytes s es) → (among s states ≡ true) ⊎ Has B bytes s (x ∷ es)
+    go false r b f k l = absurd (clash cc)
+    go true r true f k l = absurd (clash cc)
+    go true r false f k l = ⊎-elim (λ y. here r (either (eqb s at) (among s states) y)) (λ y. inr (later y)) (l k)

@@ -64,17 +64,17 @@ module _ (bytes : List ℕ) where
 -- ---- the start: the rest that `check_list` answers holds the list's entries
 module _ (bytes : List ℕ) (es : List Entry) (end : ℕ) where
   -- the entries stand after the count, and nothing after them
-  pub record Ahead (t : ℕ) : Type 0 where
+  pub record Located (t : ℕ) : Type 0 where
     pub ahead : entriesAt t bytes (length es) (after (numberAt bytes 0)) ≡ entries es end
     pub closed : length bytes ≤ end
 
-  pub list-ahead : (t : ℕ) → listOf t bytes ≡ entries es end → Ahead t
+  pub list-ahead : (t : ℕ) → listOf t bytes ≡ entries es end → Located t
   unfolding listOf
   list-ahead t e = by-count (admitted countFault 0 (numberAt bytes 0)) refl
     where
       by-end : (n : ℕ) (next : Cursor) → admitted countFault 0 (numberAt bytes 0) ≡ Value n next → (xs : List Entry) (last : ℕ)
           → entriesAt t bytes n (next .at) ≡ entries xs last → closed (length bytes) (entries xs last) ≡ entries es end → Dec (last < length bytes)
-          → Ahead t
+          → Located t
       by-end n next f xs last g i (yes h) = absurd (refused-not-entries _ es end (rw (lt-ltb last (length bytes) h) at i))
       by-end n next f xs last g i (no h) =
           let j : entries xs last ≡ entries es end = rw (le-ltb last (length bytes) (omega arith)) at i in
@@ -84,11 +84,11 @@ module _ (bytes : List ℕ) (es : List Entry) (end : ℕ) where
           record { ahead = rw (first, entries-count t bytes n (next .at) es end ahead) ahead; closed = omega arith }
 
       by-entries : (n : ℕ) (next : Cursor) → admitted countFault 0 (numberAt bytes 0) ≡ Value n next → (l : Listed)
-          → entriesAt t bytes n (next .at) ≡ l → closed (length bytes) l ≡ entries es end → Ahead t
+          → entriesAt t bytes n (next .at) ≡ l → closed (length bytes) l ≡ entries es end → Located t
       by-entries n next f (refused r) g i = absurd (refused-not-entries r es end i)
       by-entries n next f (entries xs last) g i = by-end n next f xs last g i (decLt last (length bytes))
 
-      by-count : (m : Number) → admitted countFault 0 (numberAt bytes 0) ≡ m → Ahead t
+      by-count : (m : Number) → admitted countFault 0 (numberAt bytes 0) ≡ m → Located t
       by-count (Refused r) f = absurd (refused-not-entries r es end (rw f at e))
       by-count (Value n next) f = by-entries n next f (entriesAt t bytes n (next .at)) refl (rw f at e)
 
