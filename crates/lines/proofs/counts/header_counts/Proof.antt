@@ -1,0 +1,21 @@
+-- `lines::counts::header_counts` meets its contract: the distances tell which pairs are reached. Assumes nothing.
+use Rattle.lines.specs.CountsLaws.{distances-tell}
+use borrow.Author.Needs.{needs}
+use Rattle.lines.proofs.counts.header_counts.Statement.{statement}
+use Rattle.lines.proofs.counts.header_counts.Tie as tie
+use Rattle.lines.proofs.counts.header_counts.Reads as reads
+use Rattle.lines.proofs.counts.header_counts.Lts as lts
+use Rattle.distances.proofs.from_start.Reads as from-start-reads
+use Rattle.lines.proofs.counts.rows.Reads as rows-reads
+
+from-start-requires : tie.Need-from-start-requires
+from-start-requires c κs = search needs
+
+rows-requires : tie.Need-rows-requires
+rows-requires c κs = search needs
+
+returns : tie.Need-returns
+returns c = record { reached = _; tells = distances-tell (c .before .before .from-start .ensures); actions = c .rows .ensures .0; pairs = c .rows .ensures .1 }
+
+pub header-counts-spec : {M : Type 1} → statement M
+header-counts-spec = tie.close (tie.spec from-start-requires rows-requires returns)

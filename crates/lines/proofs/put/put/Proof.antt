@@ -1,0 +1,64 @@
+-- `lines::put::put` meets its contract: byte by byte. Assumes nothing.
+use mathlib.Core.Path.{refl}
+use Prim.Native.Nat.{_-_, _≤_}
+use native.Mathlib.Nat.{le-antisymm}
+use native.Mathlib.Omega.{arith}
+use Rattle.lines.specs.PutLaws.{Copied, copied-none, copied-more, copied-done}
+use borrow.Author.Needs.{needs}
+use Rattle.lines.proofs.put.put.Statement.{statement}
+use Rattle.lines.proofs.put.put.Tie as tie
+use Rattle.lines.proofs.put.put.Reads as reads
+use Rattle.lines.proofs.put.put.Lts as lts
+
+abbrev Inv-loop : tie.InvT-loop
+Inv-loop word out₀ at n i₀ out i = (i ≤ n) × Copied word out₀ at out i
+
+abbrev μ-loop : tie.MeasureT-loop
+μ-loop word out₀ at n i₀ out i = n - i
+
+loop-holds : tie.Need-loop-holds Inv-loop μ-loop
+loop-holds c = (omega arith, copied-none)
+
+shared-slice-read-out : tie.Need-shared-slice-read-out Inv-loop μ-loop
+shared-slice-read-out c = search needs
+
+add-out : tie.Need-add-out Inv-loop μ-loop
+add-out c = search needs
+
+slice-write-out : tie.Need-slice-write-out Inv-loop μ-loop
+slice-write-out c = search needs
+
+add-i : tie.Need-add-i Inv-loop μ-loop
+add-i c = search needs
+
+loop-less : tie.Need-loop-less Inv-loop μ-loop
+loop-less c = search needs
+
+loop-again : tie.Need-loop-again Inv-loop μ-loop
+loop-again c = (omega arith, copied-more (c .before .before .loop .inv .1) (c .before .loop-test .taken))
+
+add-result : tie.Need-add-result Inv-loop μ-loop
+add-result c = search needs
+
+same-length : tie.Need-same-length Inv-loop μ-loop
+same-length c = c .before .loop .inv .1 .size
+
+returns : tie.Need-returns Inv-loop μ-loop
+returns c = copied-done (c .before .loop .inv .1) (le-antisymm (c .before .loop .inv .0) (c .loop-test .left)) refl
+
+pub put-spec : {M : Type 1} → statement M
+put-spec =
+    tie.close
+    (tie.spec
+    Inv-loop
+    μ-loop
+    loop-holds
+    shared-slice-read-out
+    add-out
+    slice-write-out
+    add-i
+    loop-less
+    loop-again
+    add-result
+    same-length
+    returns)

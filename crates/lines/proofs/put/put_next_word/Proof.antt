@@ -1,0 +1,28 @@
+-- `lines::put::put_next_word` meets its contract: a byte, and a word after it. Assumes nothing.
+use mathlib.Core.Path.{_∙_}
+use lib.ListN.{length-set}
+use Rattle.lines.specs.PutLaws.{put-after}
+use borrow.Author.Needs.{needs}
+use Rattle.lines.proofs.put.put_next_word.Statement.{statement}
+use Rattle.lines.proofs.put.put_next_word.Tie as tie
+use Rattle.lines.proofs.put.put_next_word.Reads as reads
+use Rattle.lines.proofs.put.put_next_word.Lts as lts
+use Rattle.lines.proofs.put.put.Reads as put-reads
+
+slice-write-out : tie.Need-slice-write-out
+slice-write-out c = search needs
+
+add-put : tie.Need-add-put
+add-put c = search needs
+
+put-requires : tie.Need-put-requires
+put-requires c κs = search needs
+
+same-length : tie.Need-same-length
+same-length c = c .before .before .put .kept .1 .0 ∙ simp length-set
+
+returns : tie.Need-returns
+returns c = put-after (c .before .before .put .ensures)
+
+pub put-next-word-spec : {M : Type 1} → statement M
+put-next-word-spec = tie.close (tie.spec slice-write-out add-put put-requires same-length returns)

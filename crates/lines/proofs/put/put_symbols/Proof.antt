@@ -1,0 +1,64 @@
+-- `lines::put::put_symbols` meets its contract: one symbol after the other. Assumes nothing.
+use Prim.Native.Nat.{_-_, _≤_}
+use native.Mathlib.Nat.{le-antisymm}
+use native.Mathlib.Omega.{arith}
+use Rattle.lines.specs.DecimalLaws.{decimal-byte}
+use Rattle.lines.specs.LineLaws.{Spelt, spelt-none, spelt-more}
+use lib.ListN.{getD}
+use Prim.Native.Nat.{_<_}
+use borrow.Author.Needs.{needs}
+use Rattle.lines.proofs.put.put_symbols.Statement.{statement}
+use Rattle.lines.proofs.put.put_symbols.Tie as tie
+use Rattle.lines.proofs.put.put_symbols.Reads as reads
+use Rattle.lines.proofs.put.put_symbols.Lts as lts
+use Rattle.lines.proofs.put.put_next.Reads as put-next-reads
+use Rattle.lines.proofs.put.wide.Reads as wide-reads
+
+abbrev Inv-loop : tie.InvT-loop
+Inv-loop sentence n out₀ at next₀ i₀ out next i = (i ≤ n) × Spelt sentence out₀ at out next i
+
+abbrev μ-loop : tie.MeasureT-loop
+μ-loop sentence n out₀ at next₀ i₀ out next i = n - i
+
+loop-holds : tie.Need-loop-holds Inv-loop μ-loop
+loop-holds c = (omega arith, spelt-none)
+
+shared-slice-read-wide : tie.Need-shared-slice-read-wide Inv-loop μ-loop
+shared-slice-read-wide c = search needs
+
+wide-requires : tie.Need-wide-requires Inv-loop μ-loop
+wide-requires c κs = search needs
+
+put-next-requires : tie.Need-put-next-requires Inv-loop μ-loop
+put-next-requires c κs = let byte : getD (c .before .before .before .before .before .before .before .args .sentence .now) (c .before .before .before .before .loop .i) 0 < 256 = omega (arith, c .before .before .shared-slice-known2 .given (c .before .before .before .before .loop .i)) in rw (c .before .wide .ensures) (omega (arith, decimal-byte _ byte, c .before .before .before .before .loop .inv .1 .near, c .before .before .before .before .loop .inv .1 .size, c .before .before .before .before .before .before .before .pre))
+
+add-i : tie.Need-add-i Inv-loop μ-loop
+add-i c = search needs
+
+loop-less : tie.Need-loop-less Inv-loop μ-loop
+loop-less c = search needs
+
+loop-again : tie.Need-loop-again Inv-loop μ-loop
+loop-again c = let byte : getD (c .before .before .before .before .before .before .before .before .before .before .args .sentence .now) (c .before .before .before .before .before .before .before .loop .i) 0 < 256 = omega (arith, c .before .before .before .before .before .shared-slice-known2 .given (c .before .before .before .before .before .before .before .loop .i)) in (omega arith, spelt-more (c .before .before .before .before .before .before .before .loop .inv .1) (omega (arith, c .before .before .before .before .before .before .before .before .before .before .pre, c .before .before .before .before .before .before .loop-test .taken)) byte (c .before .before .put-next .kept .1 .0) (rw (c .before .before .before .before .wide .ensures) at (c .before .before .put-next .ensures)))
+
+same-length : tie.Need-same-length Inv-loop μ-loop
+same-length c = c .before .loop .inv .1 .size
+
+returns : tie.Need-returns Inv-loop μ-loop
+returns c = let all = le-antisymm (c .before .loop .inv .0) (c .loop-test .left) in let s = rw all at (c .before .loop .inv .1) in (s .put, s .near)
+
+pub put-symbols-spec : {M : Type 1} → statement M
+put-symbols-spec =
+    tie.close
+    (tie.spec
+    Inv-loop
+    μ-loop
+    loop-holds
+    shared-slice-read-wide
+    wide-requires
+    put-next-requires
+    add-i
+    loop-less
+    loop-again
+    same-length
+    returns)

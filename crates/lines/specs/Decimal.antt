@@ -1,0 +1,14 @@
+-- Numbers in decimal digits. Assumes nothing.
+use mathlib.Core.Bool.{cond}
+use mathlib.Core.List.{List, [], _∷_, _++_}
+use Prim.Native.Nat.{ℕ, zero, suc, _+_, _/_, _%_}
+use lib.Dec.{ltb}
+
+-- the digits of a number in ASCII, the highest first, without leading zeros; at most k
+unfoldable pub digits : ℕ → ℕ → List ℕ
+digits zero n = []
+digits (suc k) n = cond (ltb n 10) [] (digits k (n / 10)) ++ (48 + n % 10) ∷ []
+
+-- 20 are enough for every 64-bit number
+abbrev pub decimal : ℕ → List ℕ
+decimal n = digits 20 n

@@ -1,0 +1,91 @@
+-- Laws of lines. Assumes nothing.
+use mathlib.Core.List.{List, [], _∷_, _++_, map, append-nil, append-assoc}
+use mathlib.Core.Path.{_≡_, refl, _∙_, ap, subst}
+use Prim.Native.Nat.{ℕ, zero, suc, _+_, _*_, _≤_, _<_}
+use native.Mathlib.Numerals.{add-one}
+use native.Mathlib.Omega.{arith}
+use lib.ListN.{length, take, getD, length-append}
+use lib.Seq.{take-append-seam, take-suc}
+use Rattle.number.specs.Lent.{over}
+use Rattle.book.specs.Tables.{Tables}
+use Rattle.walk.specs.Answer.{Outcome, Answer}
+use Rattle.walk.specs.Answer.{Unreached as Never, Long as Far, Sentence as Word}
+use Rattle.walk.specs.Cost.{limit}
+use Rattle.finder.specs.Finder.{Answered, found, sentence}
+use Rattle.finder.specs.declared.Found.{Found}
+use Rattle.finder.specs.declared.Found.the-variants.{Unreached, Long, Sentence, Refused}
+use Rattle.lines.specs.Decimal.{decimal}
+use Rattle.lines.specs.DecimalLaws.{decimal-byte}
+use Rattle.lines.specs.Line.{spaced, line, unreached, long, told, Listed}
+use Rattle.lines.specs.Put.{Put}
+use Rattle.lines.specs.PutLaws.{put-then}
+
+-- pieces one after the other are a line
+pub two-words : (a b c d : List ℕ) → (((a ++ 32 ∷ b) ++ 32 ∷ c) ++ 32 ∷ d) ++ 10 ∷ [] ≡ line a (b ∷ c ∷ d ∷ [])
+two-words a b c d = simp append-assoc
+
+pub pair-words : (a b : List ℕ) (ws : List (List ℕ)) → (a ++ 32 ∷ b) ++ (spaced ws ++ 10 ∷ []) ≡ line a (b ∷ ws)
+pair-words a b ws = simp append-assoc
+
+-- the words of an answer whose sentence stands at the front of a buffer; none for a refusal, which no pair of a book has
+abbrev pub words : Found → List ℕ → List (List ℕ)
+words Unreached buffer = unreached ∷ []
+words Long buffer = long ∷ []
+words (Sentence n) buffer = decimal n ∷ map decimal (take n buffer)
+words (Refused r) buffer = []
+
+abbrev pub Fitting : Found → List ℕ → Type 0
+Fitting Unreached buffer = Unit {0}
+Fitting Long buffer = Unit {0}
+Fitting (Sentence n) buffer = (n ≤ limit) × (n ≤ length buffer)
+Fitting (Refused r) buffer = ⊥
+
+outcome-words : (o : Outcome) (buffer : List ℕ) → words (found o) (over (sentence o) buffer) ≡ told o
+outcome-words Never buffer = refl
+outcome-words Far buffer = refl
+outcome-words (Word w) buffer = rw take-append-seam
+
+outcome-fits : (B : Tables) (s z : ℕ) (o : Outcome) (buffer : List ℕ) → Answer (λ a. a) B s z o → Fitting (found o) (over (sentence o) buffer)
+outcome-fits B s z Never buffer a = tt
+outcome-fits B s z Far buffer a = tt
+outcome-fits B s z (Word w) buffer a = (a .1, simp length-append (omega arith))
+
+module _ {B : Tables} {s z : ℕ} {buffer left : List ℕ} {r : Found} where
+  answered-words : (a : Answered B s z buffer r left) → words r left ≡ told (a .outcome)
+  answered-words a = rw (a .told, a .front) (outcome-words (a .outcome) buffer)
+
+  pub answered-fits : Answered B s z buffer r left → Fitting r left
+  answered-fits a = rw (a .told, a .front) (outcome-fits B s z (a .outcome) buffer (a .right))
+
+  pub answered-line : {lent now : List ℕ} {at next : ℕ} → Answered B s z buffer r left
+      → Put ((decimal s ++ 32 ∷ decimal z) ++ (spaced (words r left) ++ 10 ∷ [])) lent at now next → Listed B s z lent at now next
+  answered-line {lent} {now} {at} {next} a p =
+      let e = pair-words (decimal s) (decimal z) (words r left) ∙ ap (λ (ws : List (List ℕ)). line (decimal s) (decimal z ∷ ws)) (answered-words a) in
+      record { outcome = a .outcome; right = a .right; put = subst (λ (l : List ℕ). Put l lent at now next) e p }
+
+-- ---- symbols one after the other
+spaced-more : (ws : List (List ℕ)) (w : List ℕ) → spaced (ws ++ w ∷ []) ≡ spaced ws ++ 32 ∷ w
+spaced-more [] w = rw append-nil
+spaced-more (v ∷ ws) w = rw (spaced-more ws w, append-assoc)
+
+map-more : (w : List ℕ) (a : ℕ) → map decimal (w ++ a ∷ []) ≡ map decimal w ++ decimal a ∷ []
+map-more [] a = refl
+map-more (b ∷ w) a = rw (map-more w a)
+
+-- i symbols of the sentence were put, each with at most three digits
+pub record Spelt (w lent : List ℕ) (at : ℕ) (now : List ℕ) (next i : ℕ) : Type 0 where
+  pub size : length now ≡ length lent
+  pub put : Put (spaced (map decimal (take i w))) lent at now next
+  pub near : next ≤ at + 4 * i
+
+module _ {w lent : List ℕ} {at : ℕ} where
+  pub spelt-none : Spelt w lent at lent at 0
+  spelt-none = record { size = refl; put = record { stored = refl; after = omega arith }; near = omega arith }
+
+  pub spelt-more : {now left : List ℕ} {next end i : ℕ} → Spelt w lent at now next i → i < length w → getD w i 0 < 256 → length left ≡ length now
+      → Put (32 ∷ decimal (getD w i 0)) now next left end → Spelt w lent at left end (i + 1)
+  spelt-more {i} p h small e q = record {
+    size = e ∙ p .size;
+    put = rw (add-one, take-suc w i 0, map-more, spaced-more) (put-then (p .put) q);
+    near = omega (arith, p .near, q .after, decimal-byte (getD w i 0) small);
+  }

@@ -1,0 +1,16 @@
+// The lines of a listing: the header's counts, and each line's bytes.
+mod counts;
+mod line;
+mod put;
+
+pub use counts::header_counts;
+pub use counts::is_error;
+pub use line::put_header;
+pub use line::put_pair;
+pub use line::put_refusal;
+
+// The header's counts: error actions and failing pairs.
+pub struct Header {
+    pub errors: usize,
+    pub failing: usize,
+}
