@@ -4,5 +4,7 @@ pub mod Decimal
 pub mod DecimalLaws
 pub mod Line
 pub mod LineLaws
+pub mod Prepare
+pub mod PrepareLaws
 pub mod Put
 pub mod PutLaws

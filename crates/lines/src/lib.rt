@@ -1,6 +1,7 @@
 // The lines of a listing: the header's counts, and each line's bytes.
 mod counts;
 mod line;
+mod opening;
 mod put;
 
 pub use counts::header_counts;
@@ -8,6 +9,7 @@ pub use counts::is_error;
 pub use line::put_header;
 pub use line::put_pair;
 pub use line::put_refusal;
+pub use opening::prepare;
 
 // The header's counts: error actions and failing pairs.
 pub struct Header {

@@ -1,0 +1,36 @@
+// What is checked before a listing, and the crossing table that serves all its lines.
+ghost use mathlib.Core.Path.{_≡_};
+ghost use Rattle.book.specs.Book.{ofCells, checked};
+ghost use Rattle.lines.specs.Prepare.{admits, Prepared};
+use book::Checked;
+use crossings::crossings;
+use finder::work_cells;
+use number::Refusal;
+
+fn admit(cells: &[u16], work: usize) -> Checked
+    ensures { λ r. ⌜ r ≡ admits work (checked (ofCells (now (cells .entry)))) ⌝ }
+{
+    let found = book::check(cells);
+    let Checked::Valid(d) = found else {
+        return found;
+    };
+    if work < work_cells(d) {
+        return Checked::Refused(Refusal {
+            number: 13,
+            place: 0,
+        });
+    }
+    found
+}
+
+// Checks the book in the cells and builds its crossing table in the work cells; answers the book's sizes, or the refusal.
+pub fn prepare(cells: &[u16], work: &mut [u16]) -> Checked
+    ensures { λ r. ⌜ Prepared (now (cells .entry)) (now (work .entry)) r (now (work .exit)) ⌝ }
+{
+    let found = admit(cells, work.len());
+    let Checked::Valid(d) = found else {
+        return found;
+    };
+    crossings(cells, d, work);
+    found
+}
