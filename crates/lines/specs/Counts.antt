@@ -1,6 +1,7 @@
 -- The counts of a listing's header. Assumes nothing.
 use mathlib.Core.Bool.{Bool, true, false, _&&_}
 use mathlib.Core.List.{List}
+use mathlib.Core.Logic.{_↔_}
 use mathlib.Core.Path.{_≡_}
 use Prim.Native.Nat.{ℕ, zero, suc, _+_, _<_}
 use Rattle.book.specs.Tables.{Tables}
@@ -21,14 +22,10 @@ fails Accept = false
 fails (Shift s) = false
 fails (Reduce p) = false
 
--- a test that tells the pairs of the book that some sequence, however long, reaches
-pub record Tells (B : Tables) (d : Sizes) (reached : ℕ → ℕ → Bool) : Type 0 where
-  pub some : (s z : ℕ) → s < d .s → z < d .t → reached s z ≡ true → (w : List ℕ) × Reaches B w z s
-  pub none : (s z : ℕ) → s < d .s → z < d .t → reached s z ≡ false → (w : List ℕ) → ¬ Reaches B w z s
-
--- 'The header counts error actions and failing pairs'; 'A failing pair is a reached pair, long or not, whose action is error'
+-- 'The header counts error actions and failing pairs'; 'A failing pair is a reached pair, long or not, whose action is error'. A pair is
+-- reached if some sequence, however long, reaches it
 pub record Counts (B : Tables) (d : Sizes) (errors failing : ℕ) : Type 0 where
   pub reached : ℕ → ℕ → Bool
-  pub tells : Tells B d reached
+  pub decides : (s z : ℕ) → s < d .s → z < d .t → (reached s z ≡ true) ↔ ((w : List ℕ) × Reaches B w z s)
   pub actions : errors ≡ pairsOf (λ s z. fails (B .act s z)) (d .t) (d .s)
   pub pairs : failing ≡ pairsOf (λ s z. fails (B .act s z) && reached s z) (d .t) (d .s)

@@ -1,23 +1,20 @@
 -- Laws of the counts. Assumes nothing.
 use mathlib.Core.Bool.{Bool, true, false, cond, _&&_}
 use mathlib.Core.List.{List}
-use mathlib.Core.Logic.{⊎-elim}
-use mathlib.Core.Path.{_≡_, refl, ap₂}
+use mathlib.Core.Path.{_≡_, refl, sym, _∙_, ap₂}
 use Prim.Native.Nat.{ℕ, zero, suc, _+_, _*_, _≤_, _<_}
 use native.Mathlib.Numerals.{add-one}
 use native.Mathlib.Nat.{suc-mul}
 use native.Mathlib.Omega.{arith}
-use borrow.Author.Tests.{ltb-true, ltb-false}
 use lib.Dec.{ltb}
 use Rattle.book.specs.IndexLaws.{mul-small}
 use Rattle.book.specs.Range.{Small}
-use Rattle.book.specs.Tables.{tablesOf}
+use Rattle.book.specs.Tables.{Tables, tablesOf}
 use Rattle.book.specs.declared.Sizes.{Sizes}
-use Rattle.walk.specs.Cost.{unreached, Exact}
+use Rattle.walk.specs.Cost.{unreached}
 use Rattle.layers.specs.Layer.{entryIn}
-use Rattle.distances.specs.Distances.{StartTable}
 use Rattle.sets.specs.Set.{countOf}
-use Rattle.lines.specs.Counts.{fails, pairsOf, Tells, Counts}
+use Rattle.lines.specs.Counts.{fails, pairsOf, Counts}
 
 -- the pairs whose action is error, and those among them that have a distance from the start
 abbrev pub errorIn : List ℕ → ℕ → ℕ → Bool
@@ -59,13 +56,31 @@ pairs-most P T (suc S) = omega (arith, pairs-most P T S, count-most (P S) T, suc
 pub pairs-few : (P : ℕ → ℕ → Bool) (d : Sizes) (q : ℕ) → Small d → q ≤ d .s → pairsOf P (d .t) q ≤ 4096
 pairs-few P d q h l = omega (arith, pairs-most P (d .t) q, mul-small q 128 (d .t) 32 (omega (arith, h .states)) (h .terminals))
 
--- an exact distance below unreached is that of a word, and none reaches where it is unreached
-pub distances-tell : {d : Sizes} {cells dist : List ℕ} → StartTable d cells dist → Tells (tablesOf cells) d (λ s z. ltb (entryIn dist s z) unreached)
-distances-tell {d} {cells} {dist} x = record {
-  some = λ s z hs hz e.
-      let near : entryIn dist s z < unreached = ltb-true (entryIn dist s z) unreached e in
-      ⊎-elim (λ v. absurd (omega arith)) (λ p. (p .0, p .1)) (x .exact s z hs hz .attained);
-  none = λ s z hs hz e w r.
-      let far : unreached ≤ entryIn dist s z = ltb-false (entryIn dist s z) unreached e in
-      omega (arith, x .exact s z hs hz .least w r);
-}
+-- ---- at most one header is right
+count-same : (P Q : ℕ → Bool) (k : ℕ) → ((z : ℕ) → z < k → P z ≡ Q z) → countOf P k ≡ countOf Q k
+unfolding countOf
+count-same P Q zero e = refl
+count-same P Q (suc k) e = rw (e k (omega arith), count-same P Q k (λ z l. e z (omega arith)))
+
+pairs-same : (P Q : ℕ → ℕ → Bool) (T S : ℕ) → ((s z : ℕ) → s < S → z < T → P s z ≡ Q s z) → pairsOf P T S ≡ pairsOf Q T S
+unfolding pairsOf
+pairs-same P Q T zero e = refl
+pairs-same P Q T (suc S) e =
+    rw (count-same (P S) (Q S) T (λ z l. e S z (omega arith) l), pairs-same P Q T S (λ s z l m. e s z (omega arith) m))
+
+both : (b c : Bool) → (b ≡ true → c ≡ true) → (c ≡ true → b ≡ true) → b ≡ c
+both true c f g = sym (f refl)
+both false true f g = g refl
+both false false f g = refl
+
+pub header-one : {B : Tables} {d : Sizes} {e f e′ f′ : ℕ} → Counts B d e f → Counts B d e′ f′ → (e ≡ e′) × (f ≡ f′)
+header-one {B} {d} x y = (
+  x .actions ∙ sym (y .actions),
+  x .pairs ∙ pairs-same (λ s z. fails (B .act s z) && x .reached s z) (λ s z. fails (B .act s z) && y .reached s z) (d .t) (d .s) same ∙ sym (y .pairs),
+)
+  where
+    same : (s z : ℕ) → s < d .s → z < d .t → (fails (B .act s z) && x .reached s z) ≡ (fails (B .act s z) && y .reached s z)
+    same s z hs hz =
+        let (some, all) = x .decides s z hs hz in
+        let (some′, all′) = y .decides s z hs hz in
+        rw (both (x .reached s z) (y .reached s z) (λ e. all′ (some e)) (λ e. all (some′ e)))

@@ -1,22 +1,23 @@
 -- Laws of lines. Assumes nothing.
 use mathlib.Core.List.{List, [], _∷_, _++_, map, append-nil, append-assoc}
-use mathlib.Core.Path.{_≡_, refl, _∙_, ap, subst}
-use Prim.Native.Nat.{ℕ, zero, suc, _+_, _*_, _≤_, _<_}
+use mathlib.Core.Path.{_≡_, refl, sym, _∙_, ap, subst}
+use Prim.Native.Nat.{ℕ, _+_, _*_, _≤_, _<_}
 use native.Mathlib.Numerals.{add-one}
 use native.Mathlib.Omega.{arith}
 use lib.ListN.{length, take, getD, length-append}
-use lib.Seq.{take-append-seam, take-suc}
+use lib.Seq.{sets, take-append-seam, take-suc}
 use Rattle.number.specs.Lent.{over}
 use Rattle.book.specs.Tables.{Tables}
 use Rattle.walk.specs.Answer.{Outcome, Answer}
 use Rattle.walk.specs.Answer.{Unreached as Never, Long as Far, Sentence as Word}
+use Rattle.walk.specs.AnswerLaws.{answer-one}
 use Rattle.walk.specs.Cost.{limit}
 use Rattle.finder.specs.Finder.{Answered, found, sentence}
 use Rattle.finder.specs.declared.Found.{Found}
 use Rattle.finder.specs.declared.Found.the-variants.{Unreached, Long, Sentence, Refused}
 use Rattle.lines.specs.Decimal.{decimal}
 use Rattle.lines.specs.DecimalLaws.{decimal-byte}
-use Rattle.lines.specs.Line.{spaced, line, unreached, long, told, Listed}
+use Rattle.lines.specs.Line.{spaced, line, unreached, long, told, pairLine, Listed}
 use Rattle.lines.specs.Put.{Put}
 use Rattle.lines.specs.PutLaws.{put-then}
 
@@ -62,6 +63,15 @@ module _ {B : Tables} {s z : ℕ} {buffer left : List ℕ} {r : Found} where
   answered-line {lent} {now} {at} {next} a p =
       let e = pair-words (decimal s) (decimal z) (words r left) ∙ ap (λ (ws : List (List ℕ)). line (decimal s) (decimal z ∷ ws)) (answered-words a) in
       record { outcome = a .outcome; right = a .right; put = subst (λ (l : List ℕ). Put l lent at now next) e p }
+
+-- at most one line is right
+pub line-one : {B : Tables} {s z at next next′ : ℕ} {lent left left′ : List ℕ} → Listed B s z lent at left next → Listed B s z lent at left′ next′
+    → (left ≡ left′) × (next ≡ next′)
+line-one {B} {s} {z} {at} {lent} x y =
+    let same = answer-one (λ a. a) B s z (x .outcome) (y .outcome) (x .right) (y .right) in (
+      x .put .stored ∙ ap (λ (o : Outcome). sets lent at (pairLine s z o)) same ∙ sym (y .put .stored),
+      x .put .after ∙ ap (λ (o : Outcome). at + length (pairLine s z o)) same ∙ sym (y .put .after),
+    )
 
 -- ---- symbols one after the other
 spaced-more : (ws : List (List ℕ)) (w : List ℕ) → spaced (ws ++ w ∷ []) ≡ spaced ws ++ 32 ∷ w

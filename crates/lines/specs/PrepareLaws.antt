@@ -6,13 +6,12 @@ use native.Mathlib.Decide.{decLe}
 use native.Mathlib.Omega.{arith}
 use borrow.Author.Tests.{le-leb, lt-leb}
 use lib.ListN.{length}
-use Rattle.number.specs.declared.Refusal.{Refusal}
-use Rattle.book.specs.Book.{Row, read, refused as unread, ofBytes, ofCells, checked, put, delivered, reading}
+use Rattle.book.specs.Book.{Row, read, refused as unread, ofBytes, put, delivered, reading}
 use Rattle.book.specs.TablesLaws.{Holds, valid-holds}
 use Rattle.book.specs.declared.Checked.{Checked}
 use Rattle.book.specs.declared.Checked.the-variants.{Valid, Refused as Faulty}
 use Rattle.book.specs.declared.Written.{Written}
-use Rattle.book.specs.declared.Written.the-variants.{Count, Refused as Unwritten}
+use Rattle.book.specs.declared.Written.the-variants.{Count}
 use Rattle.book.specs.declared.Sizes.{Sizes}
 use Rattle.machine.specs.AdmissionLaws.{past-short}
 use Rattle.machine.specs.MachineLaws.{clash}

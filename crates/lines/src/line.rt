@@ -1,6 +1,5 @@
 // The lines: the header, a pair, a refusal. Each is put at a place of a lent buffer and answers the place after it.
-ghost use mathlib.Core.List.{List, [], _∷_, _++_};
-ghost use mathlib.Core.Path.{_≡_};
+ghost use mathlib.Core.List.{[], _∷_, _++_};
 ghost use Prim.Native.Nat.{_+_, _≤_, _<_};
 ghost use lib.ListN.{length};
 ghost use Rattle.book.specs.Tables.{tablesOf};

@@ -1,8 +1,7 @@
 // Words and numbers put at a place of a lent buffer; each answers the place after.
-ghost use mathlib.Core.List.{_∷_, []};
+ghost use mathlib.Core.List.{_∷_, map};
 ghost use mathlib.Core.Path.{_≡_};
 ghost use Prim.Native.Nat.{_+_, _*_, _≤_};
-ghost use mathlib.Core.List.{map};
 ghost use lib.ListN.{length, drop, take};
 ghost use Rattle.lines.specs.Decimal.{decimal};
 ghost use Rattle.lines.specs.Line.{spaced};

@@ -4,7 +4,6 @@ use mathlib.Core.Path.{_≡_}
 use Prim.Native.Nat.{_-_, _≤_}
 use native.Mathlib.Omega.{arith}
 use native.Mathlib.Nat.{le-antisymm}
-use Rattle.sets.specs.Set.{countOf}
 use Rattle.lines.specs.Counts.{pairsOf}
 use Rattle.lines.specs.CountsLaws.{errorIn, failingIn, pairs-step, pairs-few, count-most}
 use Rattle.lines.proofs.counts.rows.Statement.{statement}

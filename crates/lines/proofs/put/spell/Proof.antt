@@ -1,7 +1,5 @@
 -- `lines::put::spell` meets its contract: digit by digit, from the last. Assumes nothing.
-use mathlib.Core.Path.{refl}
-use Prim.Native.Nat.{_-_, _≤_}
-use native.Mathlib.Nat.{le-antisymm}
+use Prim.Native.Nat.{_≤_}
 use native.Mathlib.Omega.{arith}
 use Rattle.lines.specs.DecimalLaws.{Spelling, spelling-none, spelling-more, spelling-last, spelling-end}
 use borrow.Author.Needs.{needs}
