@@ -3,22 +3,22 @@ use crate::say;
 use book::Action;
 
 fn decoded(cell: u16) {
-    say::label(b"action ", say::wide(cell));
+    trial::label(b"action ", say::wide(cell));
     match book::decode(cell) {
         Action::Error => {
-            say::text(b": error");
+            trial::text(b": error");
         }
         Action::Accept => {
-            say::text(b": accept");
+            trial::text(b": accept");
         }
         Action::Shift(s) => {
-            say::label(b": shift ", say::wide(s));
+            trial::label(b": shift ", say::wide(s));
         }
         Action::Reduce(p) => {
-            say::label(b": reduce ", say::wide(p));
+            trial::label(b": reduce ", say::wide(p));
         }
     }
-    say::text(b"\n");
+    trial::text(b"\n");
 }
 
 // Each kind at the ends of what a book may hold, and the highest cells.

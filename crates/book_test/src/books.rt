@@ -41,11 +41,11 @@ fn bytes_of(name: &[u8], row: &[u16]) {
     let mut bytes = [0u8; 64];
     book::write(row, &mut bytes);
     let n = row.len();
-    say::text(name);
+    trial::text(name);
     if n <= 64 {
         say::hex(&bytes[0..n]);
     }
-    say::text(b"\n");
+    trial::text(b"\n");
 }
 
 // The cells that the book is read as.
@@ -53,18 +53,18 @@ fn cells_of(name: &[u8], row: &[u16]) {
     let mut bytes = [0u8; 64];
     let mut cells = [0u16; 64];
     let n = lent::encode(row, &mut bytes, 0);
-    say::text(name);
+    trial::text(name);
     if n <= 64 {
         book::read(&bytes[0..n], &mut cells);
         say::cells(&cells[0..n]);
     }
-    say::text(b"\n");
+    trial::text(b"\n");
 }
 
 fn whole_of(name: &[u8], row: &[u16]) {
     bytes_of(name, row);
     cells_of(name, row);
-    say::text(name);
+    trial::text(name);
     judge::row(row);
 }
 
@@ -78,8 +78,8 @@ pub fn whole() {
 fn prefixes_of(name: &[u8], row: &[u16]) {
     let mut n: usize = 0;
     while n < row.len() {
-        say::text(name);
-        say::label(b" prefix ", n);
+        trial::text(name);
+        trial::label(b" prefix ", n);
         judge::row(&row[0..n]);
         n += 1;
     }
@@ -97,7 +97,7 @@ fn bracket_and(v: u16, room: usize) {
     let mut row = [0u16; 40];
     lent::copy(&book, &mut row);
     row[39] = v;
-    say::label(b"bracket and ", say::wide(v));
+    trial::label(b"bracket and ", say::wide(v));
     judge::row_with_room(&row, room);
 }
 
@@ -111,13 +111,13 @@ pub fn surplus() {
 
 fn bracket_in(room: usize) {
     let row = bracket();
-    say::text(b"bracket");
+    trial::text(b"bracket");
     judge::row_with_room(&row, room);
 }
 
 fn double_in(room: usize) {
     let row = double();
-    say::text(b"double");
+    trial::text(b"double");
     judge::row_with_room(&row, room);
 }
 

@@ -6,21 +6,21 @@ use crate::lent;
 use crate::say;
 
 pub fn patch(cells: &mut [u16], i: usize, v: u16) {
-    say::label(b" cell ", i);
-    say::label(b" = ", say::wide(v));
+    trial::label(b" cell ", i);
+    trial::label(b" = ", say::wide(v));
     lent::set(cells, i, v);
 }
 
 fn one(i: usize, v: u16) {
     let mut cells = books::bracket();
-    say::text(b"bracket");
+    trial::text(b"bracket");
     patch(&mut cells, i, v);
     judge::row(&cells);
 }
 
 fn two(i: usize, v: u16, j: usize, w: u16) {
     let mut cells = books::bracket();
-    say::text(b"bracket");
+    trial::text(b"bracket");
     patch(&mut cells, i, v);
     patch(&mut cells, j, w);
     judge::row(&cells);
@@ -100,7 +100,7 @@ pub fn pairs() {
 
 fn one_in(i: usize, v: u16, room: usize) {
     let mut cells = books::bracket();
-    say::text(b"bracket");
+    trial::text(b"bracket");
     patch(&mut cells, i, v);
     judge::row_with_room(&cells, room);
 }

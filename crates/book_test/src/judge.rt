@@ -5,7 +5,7 @@ use crate::say;
 // `given` is what reading the bytes is to give.
 fn reading(bytes: &[u8], given: &[u16], cells: &mut [u16]) {
     lent::guard_cells(cells);
-    say::text(b": read");
+    trial::text(b": read");
     let n = say::written(book::read(bytes, cells), b" cells");
     say::left(
         n,
@@ -17,7 +17,7 @@ fn reading(bytes: &[u8], given: &[u16], cells: &mut [u16]) {
 // `given` is what writing the cells is to give.
 fn writing(row: &[u16], given: &[u8], bytes: &mut [u8]) {
     lent::guard_bytes(bytes);
-    say::text(b"; write");
+    trial::text(b"; write");
     let n = say::written(book::write(row, bytes), b" bytes");
     say::left(
         n,
@@ -30,7 +30,7 @@ fn answers(row: &[u16], encoded: &[u8], cells: &mut [u16], bytes: &mut [u8]) {
     reading(encoded, row, cells);
     say::checked(book::check(row));
     writing(row, encoded, bytes);
-    say::text(b"\n");
+    trial::text(b"\n");
 }
 
 // The row is encoded in `space`; `cells` and `bytes` are lent to the calls.
@@ -54,7 +54,7 @@ pub fn row_with_room(row: &[u16], room: usize) {
     let mut space = [0u8; 192];
     let mut cells = [0u16; 64];
     let mut bytes = [0u8; 64];
-    say::label(b" with room ", room);
+    trial::label(b" with room ", room);
     if room <= 64 {
         row_in(row, &mut space, &mut cells[0..room], &mut bytes[0..room]);
     }
@@ -63,5 +63,5 @@ pub fn row_with_room(row: &[u16], room: usize) {
 // Bytes in place of those of a given row; `cells` is lent.
 pub fn bytes_in(encoded: &[u8], given: &[u16], cells: &mut [u16]) {
     reading(encoded, given, cells);
-    say::text(b"\n");
+    trial::text(b"\n");
 }

@@ -2,7 +2,6 @@
 use crate::faults::patch;
 use crate::judge;
 use crate::lent;
-use crate::say;
 
 const HEAD: [u16; 5] = [1, 32, 32, 128, 128];
 
@@ -49,7 +48,7 @@ fn judged(row: &[u16], room_cells: usize, room_bytes: usize) {
 fn patched(i: usize, v: u16) {
     let mut row = [0u16; 8453];
     fill(&mut row);
-    say::text(b"longest");
+    trial::text(b"longest");
     patch(&mut row, i, v);
     judged(&row, 8500, 16700);
 }
@@ -72,8 +71,8 @@ pub fn faults() {
 }
 
 fn room(row: &[u16], room_cells: usize, room_bytes: usize) {
-    say::label(b"longest with room ", room_cells);
-    say::label(b" and ", room_bytes);
+    trial::label(b"longest with room ", room_cells);
+    trial::label(b" and ", room_bytes);
     judged(row, room_cells, room_bytes);
 }
 
@@ -92,8 +91,8 @@ fn cut(row: &[u16], n: usize) {
     if 16700 < n {
         return;
     }
-    say::label(b"longest in ", n);
-    say::text(b" bytes");
+    trial::label(b"longest in ", n);
+    trial::text(b" bytes");
     judge::bytes_in(&space[0..n], row, &mut cells);
 }
 
@@ -112,7 +111,7 @@ fn cuts(row: &[u16]) {
 pub fn whole() {
     let mut row = [0u16; 8453];
     fill(&mut row);
-    say::text(b"longest");
+    trial::text(b"longest");
     judged(&row, 8500, 16700);
     rooms(&row);
     cuts(&row);

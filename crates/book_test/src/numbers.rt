@@ -6,22 +6,22 @@ use number::Number;
 fn told(found: Number) {
     match found {
         Number::Refused(r) => {
-            say::refusal(r);
+            trial::refusal(r);
         }
         Number::Value(v, next) => {
-            say::label(b" value ", say::wide(v));
-            say::label(b" next ", next.at);
+            trial::label(b" value ", say::wide(v));
+            trial::label(b" next ", next.at);
         }
     }
 }
 
 fn read_at(bytes: &[u8], at: usize) {
-    say::text(b"number");
+    trial::text(b"number");
     say::hex(bytes);
-    say::label(b" at ", at);
-    say::text(b":");
+    trial::label(b" at ", at);
+    trial::text(b":");
     told((Cursor { at }).read(bytes));
-    say::text(b"\n");
+    trial::text(b"\n");
 }
 
 pub fn marked() {

@@ -8,7 +8,7 @@ fn zeros(t: u16, n: u16, s: u16, p: u16, total: usize) {
     let head = [1, t, n, s, p];
     let mut row = [0u16; 640];
     lent::copy(&head, &mut row);
-    say::text(b"zeros after");
+    trial::text(b"zeros after");
     say::cells(&head);
     if total <= 640 {
         judged(&row[0..total]);

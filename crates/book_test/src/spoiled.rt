@@ -20,8 +20,8 @@ fn spoiled_row(row: &[u16], i: usize, raw: &[u8]) {
     let mut bytes = [0u8; 192];
     let mut cells = [0u16; 64];
     let n = splice(row, i, raw, &mut bytes);
-    say::label(b" number ", i);
-    say::text(b" as");
+    trial::label(b" number ", i);
+    trial::text(b" as");
     say::hex(raw);
     if n <= 192 {
         judge::bytes_in(&bytes[0..n], row, &mut cells);
@@ -30,7 +30,7 @@ fn spoiled_row(row: &[u16], i: usize, raw: &[u8]) {
 
 fn spoiled(i: usize, raw: &[u8]) {
     let bracket = books::bracket();
-    say::text(b"bracket");
+    trial::text(b"bracket");
     spoiled_row(&bracket, i, raw);
 }
 
@@ -73,7 +73,7 @@ pub fn left_over() {
 
 fn patched(j: usize, v: u16, i: usize, raw: &[u8]) {
     let mut cells = books::bracket();
-    say::text(b"bracket");
+    trial::text(b"bracket");
     patch(&mut cells, j, v);
     spoiled_row(&cells, i, raw);
 }

@@ -22,7 +22,7 @@ fn row(dist: &[u16; 4096], t: usize, q: usize)
         say::cost(dist[start + z]);
         z += 1;
     }
-    say::line(b"");
+    trial::line(b"");
 }
 
 fn rows(dist: &[u16; 4096], t: usize, s: usize)
@@ -55,7 +55,7 @@ fn map(cells: &[u16], d: Sizes)
     let n = d.n;
     let s = d.s;
     if ROOM < s * n * t * t {
-        say::line(b"large");
+        trial::line(b"large");
         return;
     }
     let mut table = [0u16; ROOM];
@@ -63,13 +63,13 @@ fn map(cells: &[u16], d: Sizes)
     crossings(cells, d, &mut table);
     from_start(cells, d, &table, &mut dist);
     rows(&dist, t, s);
-    say::line(b"to the last");
+    trial::line(b"to the last");
     to_last(cells, d, &table);
 }
 
 pub fn judge(cells: &[u16]) {
     match book::check(cells) {
-        Checked::Refused(_) => say::line(b"refused"),
+        Checked::Refused(_) => trial::line(b"refused"),
         Checked::Valid(d) => map(cells, d),
     }
 }

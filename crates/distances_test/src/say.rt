@@ -1,21 +1,15 @@
-// Lines and costs on standard output.
+// A cost in a line.
 use walk::LONG;
 use walk::UNREACHED;
 
-pub fn line(text: &[u8]) {
-    io::write_all(1, text);
-    io::write_all(1, b"\n");
-}
-
 pub fn cost(v: u16) {
     if v >= UNREACHED {
-        io::write_all(1, b" -");
+        trial::text(b" -");
         return;
     }
     if v == LONG {
-        io::write_all(1, b" long");
+        trial::text(b" long");
         return;
     }
-    io::write_all(1, b" ");
-    io::print_decimal(1, v as u64);
+    trial::cell(b" ", v);
 }

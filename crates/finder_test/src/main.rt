@@ -8,10 +8,8 @@
 mod lent;
 mod pairs;
 mod refusals;
-mod say;
 
 ghost use Prim.Native.Nat.{_<_};
-ghost use lib.ListN.{length};
 use book::Written;
 
 // The most cells that a book has.
@@ -19,7 +17,7 @@ const MOST: usize = 8453;
 
 fn show(bytes: &[u8], cells: &mut [u16]) {
     match book::read(bytes, cells) {
-        Written::Refused(r) => say::refusal(r),
+        Written::Refused(r) => trial::refusal(r),
         Written::Count(n) => {
             if n <= cells.len() {
                 pairs::book(&cells[..n]);
@@ -28,29 +26,15 @@ fn show(bytes: &[u8], cells: &mut [u16]) {
     }
 }
 
-// The book after the two bytes that say how long it is. Answers where the next one begins.
-fn book_at(bytes: &[u8], at: usize, cells: &mut [u16]) -> usize
-    requires { ⌜ at < length (now bytes) ⌝ }
-    ensures { λ r. ⌜ at < r ⌝ }
-{
-    if bytes.len() - at < 2 {
-        return bytes.len();
-    }
-    let start = at + 2;
-    let len = bytes[at] as usize + 256 * (bytes[at + 1] as usize);
-    if bytes.len() - start < len {
-        return bytes.len();
-    }
-    let end = start + len;
-    show(&bytes[start..end], cells);
-    end
-}
-
 fn books(bytes: &[u8], cells: &mut [u16]) {
     let mut at: usize = 0;
     while at < bytes.len() {
-        say::text(b"book");
-        at = book_at(bytes, at, cells);
+        trial::text(b"book");
+        let part = trial::part_at(bytes, at);
+        let start = part.start;
+        let end = part.end;
+        show(&bytes[start..end], cells);
+        at = end;
     }
 }
 

@@ -3,7 +3,6 @@ ghost use Prim.Native.Nat.{_*_, _≤_, _<_};
 ghost use lib.ListN.{length};
 ghost use Rattle.book.specs.Range.{Small};
 use crate::lent;
-use crate::say;
 use book::Checked;
 use book::Sizes;
 use book::Written;
@@ -21,14 +20,14 @@ const EMPTY: u32 = 9999;
 
 // A sentence; of a long one how many of its symbols are 1.
 fn sentence(s: &[u8], n: usize) {
-    say::label(b" length ", n);
+    trial::label(b" length ", n);
     if n > s.len() {
         return;
     }
     if n > 8 {
-        say::label(b" ones ", lent::bytes(&s[..n], 1));
+        trial::label(b" ones ", lent::bytes(&s[..n], 1));
     } else {
-        say::bytes(&s[..n]);
+        trial::bytes(&s[..n]);
     }
 }
 
@@ -37,38 +36,38 @@ fn pair(cells: &[u16], s: u16, z: u16) {
     let mut work = [FREE; WORK];
     let mut buffer = [BLANK; 1000];
     match finder::find(cells, s, z, &mut work, &mut buffer) {
-        Found::Refused(r) => say::refusal(r),
-        Found::Unreached => say::text(b" unreached"),
-        Found::Long => say::text(b" long"),
+        Found::Refused(r) => trial::refusal(r),
+        Found::Unreached => trial::text(b" unreached"),
+        Found::Long => trial::text(b" long"),
         Found::Sentence(n) => sentence(&buffer, n),
     }
-    say::label(b", zero ", lent::cells(&work, 0));
-    say::label(b" blank ", lent::bytes(&buffer, BLANK));
+    trial::label(b", zero ", lent::cells(&work, 0));
+    trial::label(b" blank ", lent::bytes(&buffer, BLANK));
 }
 
 // A pair of state s, with its cell of the map, and whether it is in the set.
 fn listed(cells: &[u16], s: usize, z: usize, cell: u16, set: u32)
     requires { ⌜ (s < 128) × (z < 32) ⌝ }
 {
-    say::label(b"  ", z);
-    say::cell(b" map ", cell);
+    trial::label(b"  ", z);
+    trial::cell(b" map ", cell);
     if sets::contains(set, z) {
-        say::text(b" in:");
+        trial::text(b" in:");
     } else {
-        say::text(b" out:");
+        trial::text(b" out:");
     }
     pair(cells, s as u16, z as u16);
-    say::text(b"\n");
+    trial::text(b"\n");
 }
 
 // The pairs of a state, whose row of the map and whose set are given.
 fn row(cells: &[u16], s: usize, map: &[u16], set: u32, count: u32)
     requires { ⌜ (s < 128) × (length (now map) ≤ 32) ⌝ }
 {
-    say::label(b" state ", s);
-    say::word(b" set ", set);
-    say::word(b" size ", count);
-    say::text(b"\n");
+    trial::label(b" state ", s);
+    trial::word(b" set ", set);
+    trial::word(b" size ", count);
+    trial::text(b"\n");
     let mut z: usize = 0;
     while z < map.len() {
         listed(cells, s, z, map[z], set);
@@ -93,30 +92,30 @@ fn rows(cells: &[u16], d: Sizes, map: &[u16], masks: &[u32], counts: &[u32])
 
 // What a call answered, and how many work cells it left zero and as they were.
 fn written(name: &[u8], r: Written, work: &[u16]) {
-    say::text(name);
+    trial::text(name);
     match r {
-        Written::Refused(r) => say::refusal(r),
-        Written::Count(n) => say::label(b" count ", n),
+        Written::Refused(r) => trial::refusal(r),
+        Written::Count(n) => trial::label(b" count ", n),
     }
-    say::label(b" zero ", lent::cells(work, 0));
-    say::label(b" free ", lent::cells(work, FREE));
+    trial::label(b" zero ", lent::cells(work, 0));
+    trial::label(b" free ", lent::cells(work, FREE));
 }
 
 fn draw(cells: &[u16], map: &mut [u16]) {
     let mut work = [FREE; WORK];
     let r = finder::map(cells, &mut work, map);
     written(b" map", r, &work);
-    say::label(b" after ", lent::cells(map, FREE));
-    say::text(b"\n");
+    trial::label(b" after ", lent::cells(map, FREE));
+    trial::text(b"\n");
 }
 
 fn gather(cells: &[u16], masks: &mut [u32], counts: &mut [u32]) {
     let mut work = [FREE; WORK];
     let r = finder::sets(cells, &mut work, masks, counts);
     written(b" sets", r, &work);
-    say::label(b" after ", lent::words(masks, EMPTY));
-    say::label(b" and ", lent::words(counts, EMPTY));
-    say::text(b"\n");
+    trial::label(b" after ", lent::words(masks, EMPTY));
+    trial::label(b" and ", lent::words(counts, EMPTY));
+    trial::text(b"\n");
 }
 
 fn valid(cells: &[u16], d: Sizes)
@@ -132,12 +131,12 @@ fn valid(cells: &[u16], d: Sizes)
 
 pub fn book(cells: &[u16]) {
     match book::check(cells) {
-        Checked::Refused(r) => say::refusal(r),
+        Checked::Refused(r) => trial::refusal(r),
         Checked::Valid(d) => {
-            say::label(b" terminals ", d.t);
-            say::label(b" nonterminals ", d.n);
-            say::label(b" states ", d.s);
-            say::text(b"\n");
+            trial::label(b" terminals ", d.t);
+            trial::label(b" nonterminals ", d.n);
+            trial::label(b" states ", d.s);
+            trial::text(b"\n");
             valid(cells, d);
         }
     }

@@ -1,7 +1,6 @@
 // Refusals on Bracket, which needs 864 work cells, 24 cells for the map and 6 sets; they change nothing that is lent.
 ghost use Prim.Native.Nat.{_<_};
 use crate::lent;
-use crate::say;
 use book::Written;
 use finder::Found;
 
@@ -14,17 +13,17 @@ const EMPTY: u32 = 9999;
 
 fn found(r: Found) {
     match r {
-        Found::Refused(r) => say::refusal(r),
-        Found::Unreached => say::text(b" unreached"),
-        Found::Long => say::text(b" long"),
-        Found::Sentence(n) => say::label(b" sentence ", n),
+        Found::Refused(r) => trial::refusal(r),
+        Found::Unreached => trial::text(b" unreached"),
+        Found::Long => trial::text(b" long"),
+        Found::Sentence(n) => trial::label(b" sentence ", n),
     }
 }
 
 fn written(r: Written) {
     match r {
-        Written::Refused(r) => say::refusal(r),
-        Written::Count(n) => say::label(b" count ", n),
+        Written::Refused(r) => trial::refusal(r),
+        Written::Count(n) => trial::label(b" count ", n),
     }
 }
 
@@ -36,12 +35,12 @@ fn find_in(cells: &[u16], s: u16, z: u16, work: &mut [u16], n: usize, buffer: &m
     if buffer.len() < m {
         return;
     }
-    say::label(b"find, work ", n);
-    say::label(b" buffer ", m);
+    trial::label(b"find, work ", n);
+    trial::label(b" buffer ", m);
     found(finder::find(cells, s, z, &mut work[..n], &mut buffer[..m]));
-    say::label(b", free ", lent::cells(work, FREE));
-    say::label(b" blank ", lent::bytes(buffer, BLANK));
-    say::text(b"\n");
+    trial::label(b", free ", lent::cells(work, FREE));
+    trial::label(b" blank ", lent::bytes(buffer, BLANK));
+    trial::text(b"\n");
 }
 
 fn find(cells: &[u16], s: u16, z: u16, n: usize, m: usize) {
@@ -58,12 +57,12 @@ fn map_in(cells: &[u16], work: &mut [u16], n: usize, to: &mut [u16], m: usize) {
     if to.len() < m {
         return;
     }
-    say::label(b"map, work ", n);
-    say::label(b" cells ", m);
+    trial::label(b"map, work ", n);
+    trial::label(b" cells ", m);
     written(finder::map(cells, &mut work[..n], &mut to[..m]));
-    say::label(b", free ", lent::cells(work, FREE));
-    say::label(b" and ", lent::cells(to, FREE));
-    say::text(b"\n");
+    trial::label(b", free ", lent::cells(work, FREE));
+    trial::label(b" and ", lent::cells(to, FREE));
+    trial::text(b"\n");
 }
 
 fn map(cells: &[u16], n: usize, m: usize) {
@@ -77,14 +76,14 @@ fn sets_in(cells: &[u16], work: &mut [u16], n: usize, masks: &mut [u32], counts:
     if work.len() < n {
         return;
     }
-    say::label(b"sets, work ", n);
-    say::label(b" masks ", masks.len());
-    say::label(b" sizes ", counts.len());
+    trial::label(b"sets, work ", n);
+    trial::label(b" masks ", masks.len());
+    trial::label(b" sizes ", counts.len());
     written(finder::sets(cells, &mut work[..n], masks, counts));
-    say::label(b", free ", lent::cells(work, FREE));
-    say::label(b" empty ", lent::words(masks, EMPTY));
-    say::label(b" and ", lent::words(counts, EMPTY));
-    say::text(b"\n");
+    trial::label(b", free ", lent::cells(work, FREE));
+    trial::label(b" empty ", lent::words(masks, EMPTY));
+    trial::label(b" and ", lent::words(counts, EMPTY));
+    trial::text(b"\n");
 }
 
 fn sets(cells: &[u16], n: usize) {

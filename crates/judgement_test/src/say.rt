@@ -1,23 +1,12 @@
-// The words of a line.
+// A judgement and lent cells in a line.
 use judgement::Judgement;
 use machine::Ending;
 use machine::Stop;
-use number::Refusal;
-
-pub fn text(s: &[u8]) {
-    io::write_all(1, s);
-}
-
-// Words and a number.
-pub fn label(s: &[u8], n: usize) {
-    io::write_all(1, s);
-    io::print_decimal(1, n as u64);
-}
 
 fn stop(s: &[u8], stop: Stop) {
-    label(s, stop.state as usize);
-    label(b" ", stop.symbol as usize);
-    label(b" ", stop.taken);
+    trial::label(s, stop.state as usize);
+    trial::label(b" ", stop.symbol as usize);
+    trial::label(b" ", stop.taken);
 }
 
 fn ending(e: Ending) {
@@ -31,21 +20,16 @@ fn ending(e: Ending) {
     }
 }
 
-fn refusal(r: Refusal) {
-    label(b" refused ", r.number as usize);
-    label(b" place ", r.place);
-}
-
 pub fn judgement(j: Judgement) {
     match j {
         Judgement::Wrong(i, e) => {
-            label(b" wrong ", i);
+            trial::label(b" wrong ", i);
             ending(e);
         }
-        Judgement::Repeat(i) => label(b" repeat ", i),
-        Judgement::Uncovered(s) => label(b" uncovered ", s as usize),
-        Judgement::Complete => text(b" complete"),
-        Judgement::Refused(r) => refusal(r),
+        Judgement::Repeat(i) => trial::label(b" repeat ", i),
+        Judgement::Uncovered(s) => trial::label(b" uncovered ", s as usize),
+        Judgement::Complete => trial::text(b" complete"),
+        Judgement::Refused(r) => trial::refusal(r),
     }
 }
 
@@ -76,6 +60,6 @@ fn nines(cells: &[u16]) -> usize {
 
 // How many cells are zero at the front, and how many are as they were lent.
 pub fn lent(s: &[u8], cells: &[u16]) {
-    label(s, zeros(cells));
-    label(b" + ", nines(cells));
+    trial::label(s, zeros(cells));
+    trial::label(b" + ", nines(cells));
 }

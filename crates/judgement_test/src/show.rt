@@ -3,12 +3,12 @@ use crate::say;
 use book::Written;
 
 fn judged(name: &[u8], cells: &[u16], list: &[u8], work: &mut [u16], stack: &mut [u16]) {
-    say::text(name);
-    say::text(b":");
+    trial::text(name);
+    trial::text(b":");
     say::judgement(judgement::judge(cells, list, work, stack));
     say::lent(b"; work ", work);
     say::lent(b", stack ", stack);
-    say::text(b"\n");
+    trial::text(b"\n");
 }
 
 // With room and some more.
@@ -38,7 +38,7 @@ pub fn part(name: &[u8], cells: &[u16], list: &[u8], from: usize, to: usize) {
 pub fn on(name: &[u8], bytes: &[u8], list: &[u8]) {
     let mut cells = [0u16; 60];
     match book::read(bytes, &mut cells) {
-        Written::Refused(_) => say::text(b"no book\n"),
+        Written::Refused(_) => trial::text(b"no book\n"),
         Written::Count(n) => first(name, &cells, n, list),
     }
 }

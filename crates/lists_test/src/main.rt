@@ -1,7 +1,6 @@
 // Runs lists of sentences through the public calls and prints what each one answers.
 mod faults;
 mod long;
-mod say;
 mod show;
 mod whole;
 

@@ -1,6 +1,5 @@
 // What the calls answer for a list against a book.
 ghost use Rattle.lists.specs.Reading.{Stands};
-use crate::say;
 use lists::Entry;
 use lists::Listing;
 use lists::Next;
@@ -10,13 +9,13 @@ use lists::Nth;
 fn entry(list: &[u8], e: Entry, left: usize) {
     let start = e.start;
     let len = e.len;
-    say::label(b"  at ", start);
-    say::label(b" length ", len);
-    say::text(b" symbols");
-    say::bytes(lists::symbols(list, start, len));
-    say::label(b" lookahead ", e.lookahead);
-    say::label(b" remain ", left);
-    say::text(b"\n");
+    trial::label(b"  at ", start);
+    trial::label(b" length ", len);
+    trial::text(b" symbols");
+    trial::bytes(lists::symbols(list, start, len));
+    trial::label(b" lookahead ", e.lookahead);
+    trial::label(b" remain ", left);
+    trial::text(b"\n");
 }
 
 // Each entry that a reader gives, and that it gives none after the last.
@@ -28,7 +27,7 @@ fn entries(list: &[u8], first: usize, count: usize)
     while left != 0 {
         let found = lists::next_entry_in(list, at, left);
         let Next::Found(e, rest) = found else {
-            say::text(b"  missing\n");
+            trial::text(b"  missing\n");
             return;
         };
         at = rest.at;
@@ -37,28 +36,28 @@ fn entries(list: &[u8], first: usize, count: usize)
     }
     match lists::next_entry_in(list, at, left) {
         Next::None => {
-            say::text(b"  none\n");
+            trial::text(b"  none\n");
         }
         Next::Found(_, _) => {
-            say::text(b"  more\n");
+            trial::text(b"  more\n");
         }
     }
 }
 
 // A list against a book, and whether its entries are shown.
 fn read(name: &[u8], cells: &[u16], list: &[u8], shown: bool) {
-    say::text(name);
+    trial::text(name);
     match lists::check_list(cells, list) {
         Listing::Refused(r) => {
-            say::refusal(r);
-            say::text(b"\n");
+            trial::refusal(r);
+            trial::text(b"\n");
         }
         Listing::Entries(rest) => {
             let at = rest.at;
             let left = rest.left;
-            say::label(b" first ", at);
-            say::label(b" entries ", left);
-            say::text(b"\n");
+            trial::label(b" first ", at);
+            trial::label(b" entries ", left);
+            trial::text(b"\n");
             if shown {
                 entries(list, at, left);
             }
@@ -144,19 +143,19 @@ pub fn spoiled(name: &[u8], n: usize, v: u16, list: &[u8]) {
 pub fn nth(list: &[u8], k: usize) {
     let mut cells = [0u16; 39];
     book::read(&BRACKET, &mut cells);
-    say::label(b"entry ", k);
+    trial::label(b"entry ", k);
     match lists::nth_entry(&cells, list, k) {
         Nth::Refused(r) => {
-            say::refusal(r);
+            trial::refusal(r);
         }
         Nth::None => {
-            say::text(b" none");
+            trial::text(b" none");
         }
         Nth::Found(e) => {
-            say::label(b" at ", e.start);
-            say::label(b" length ", e.len);
-            say::label(b" lookahead ", e.lookahead);
+            trial::label(b" at ", e.start);
+            trial::label(b" length ", e.len);
+            trial::label(b" lookahead ", e.lookahead);
         }
     }
-    say::text(b"\n");
+    trial::text(b"\n");
 }

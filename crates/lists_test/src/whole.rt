@@ -1,5 +1,4 @@
 // Bracket's list: whole, every prefix, with a byte after the last; and lists of no entry.
-use crate::say;
 use crate::show;
 
 const LIST: [u8; 21] = [
@@ -33,7 +32,7 @@ pub fn bracket() {
 fn prefixes_of(list: &[u8]) {
     let mut n: usize = 0;
     while n < list.len() {
-        say::label(b"prefix ", n);
+        trial::label(b"prefix ", n);
         show::list(b":", &list[0..n]);
         n += 1;
     }

@@ -9,16 +9,11 @@ use machine::Ran;
 use machine::Stop;
 use number::Refusal;
 
-fn labelled(label: &[u8], n: usize) {
-    io::write_all(1, label);
-    io::print_decimal(1, n as u64);
-}
-
 fn stopped(label: &[u8], stop: Stop) {
     io::write_all(1, label);
-    labelled(b" ", stop.state as usize);
-    labelled(b" ", stop.symbol as usize);
-    labelled(b" ", stop.taken);
+    trial::label(b" ", stop.state as usize);
+    trial::label(b" ", stop.symbol as usize);
+    trial::label(b" ", stop.taken);
 }
 
 fn ended(e: Ending) {
@@ -33,8 +28,8 @@ fn ended(e: Ending) {
 }
 
 fn refused(r: Refusal) {
-    labelled(b"refused ", r.number as usize);
-    labelled(b" place ", r.place);
+    trial::label(b"refused ", r.number as usize);
+    trial::label(b" place ", r.place);
 }
 
 // A sum over the cells that tells their order.
@@ -57,7 +52,7 @@ fn show(cells: &[u16], sentence: &[u8], lookahead: u16) {
         Ran::Ended(e) => ended(e),
         Ran::Refused(r) => refused(r),
     }
-    labelled(b" stack ", digest(&stack) as usize);
+    trial::label(b" stack ", digest(&stack) as usize);
     io::write_all(1, b"\n");
 }
 
@@ -209,7 +204,7 @@ fn buffer_refusals() {
         Ran::Ended(e) => ended(e),
         Ran::Refused(r) => refused(r),
     }
-    labelled(b" stack ", digest(&stack) as usize);
+    trial::label(b" stack ", digest(&stack) as usize);
     io::write_all(1, b"\n");
 }
 

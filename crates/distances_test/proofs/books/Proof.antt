@@ -1,4 +1,5 @@
--- `distances_test::books` meets its contract. Assumes nothing.
+-- `distances_test::books` is safe and ends. Assumes nothing.
+use native.Mathlib.Omega.{arith}
 use mathlib.Core.Path.{_≡_, refl}
 use Prim.Native.Nat.{_-_}
 use lib.ListN.{length}
@@ -7,14 +8,15 @@ use Rattle.distances_test.proofs.books.Statement.{statement}
 use Rattle.distances_test.proofs.books.Tie as tie
 use Rattle.distances_test.proofs.books.Reads as reads
 use Rattle.distances_test.proofs.books.Lts as lts
-use Rattle.distances_test.proofs.book_at.Reads as book-at-reads
-use Rattle.distances_test.proofs.say.line.Reads as line-reads
+use Rattle.distances_test.proofs.show.Reads as show-reads
+use Rattle.trial.proofs.part_at.Reads as part-at-reads
+use Rattle.trial.proofs.line.Reads as line-reads
 
 abbrev Inv-loop : tie.InvT-loop
-Inv-loop bytes cells₀ at₀ t4 cells at = (length cells ≡ length cells₀)
+Inv-loop bytes cells₀ at₀ t7 cells at = (length cells ≡ length cells₀)
 
 abbrev μ-loop : tie.MeasureT-loop
-μ-loop bytes cells₀ at₀ t4 cells at = length bytes - at
+μ-loop bytes cells₀ at₀ t7 cells at = length bytes - at
 
 loop-holds : tie.Need-loop-holds Inv-loop μ-loop
 loop-holds c = refl
@@ -25,11 +27,23 @@ slice-aggregate-line c = search needs
 line-requires : tie.Need-line-requires Inv-loop μ-loop
 line-requires c κs = search needs
 
-book-at-requires : tie.Need-book-at-requires Inv-loop μ-loop
-book-at-requires c κs = search needs
+part-at-requires : tie.Need-part-at-requires Inv-loop μ-loop
+part-at-requires c κs = search needs
+
+sub-show : tie.Need-sub-show Inv-loop μ-loop
+sub-show c = omega (arith, c .part-at .ensures)
+
+part-show-start : tie.Need-part-show-start Inv-loop μ-loop
+part-show-start c = omega (arith, c .part-at .ensures)
+
+part-show-end : tie.Need-part-show-end Inv-loop μ-loop
+part-show-end c = omega (arith, c .part-at .ensures)
+
+show-requires : tie.Need-show-requires Inv-loop μ-loop
+show-requires c κs = search needs
 
 loop-less : tie.Need-loop-less Inv-loop μ-loop
-loop-less c = search needs
+loop-less c = omega (arith, c .before .before .before .before .before .part-at .ensures)
 
 loop-again : tie.Need-loop-again Inv-loop μ-loop
 loop-again c = search needs
@@ -49,7 +63,11 @@ books-spec =
     loop-holds
     slice-aggregate-line
     line-requires
-    book-at-requires
+    part-at-requires
+    sub-show
+    part-show-start
+    part-show-end
+    show-requires
     loop-less
     loop-again
     same-length

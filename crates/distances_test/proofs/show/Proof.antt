@@ -9,7 +9,7 @@ use Rattle.distances_test.proofs.show.Reads as reads
 use Rattle.distances_test.proofs.show.Lts as lts
 use Rattle.book.proofs.read.Reads as read-reads
 use Rattle.distances_test.proofs.map.judge.Reads as judge-reads
-use Rattle.distances_test.proofs.say.line.Reads as line-reads
+use Rattle.trial.proofs.line.Reads as line-reads
 
 read-requires : tie.Need-read-requires
 read-requires c κs = search needs

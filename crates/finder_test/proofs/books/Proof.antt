@@ -1,19 +1,25 @@
 -- `finder_test::books` is safe and ends. Assumes nothing.
-use mathlib.Core.Path.{_≡_}
+use native.Mathlib.Omega.{arith}
+use mathlib.Core.Path.{_≡_, refl}
 use Prim.Native.Nat.{_-_}
 use lib.ListN.{length}
 use borrow.Author.Needs.{needs}
 use Rattle.finder_test.proofs.books.Statement.{statement}
 use Rattle.finder_test.proofs.books.Tie as tie
+use Rattle.finder_test.proofs.books.Reads as reads
+use Rattle.finder_test.proofs.books.Lts as lts
+use Rattle.finder_test.proofs.show.Reads as show-reads
+use Rattle.trial.proofs.part_at.Reads as part-at-reads
+use Rattle.trial.proofs.text.Reads as text-reads
 
 abbrev Inv-loop : tie.InvT-loop
-Inv-loop bytes cells₀ at₀ t4 cells at = length cells ≡ length cells₀
+Inv-loop bytes cells₀ at₀ t7 cells at = (length cells ≡ length cells₀)
 
 abbrev μ-loop : tie.MeasureT-loop
-μ-loop bytes cells₀ at₀ t4 cells at = length bytes - at
+μ-loop bytes cells₀ at₀ t7 cells at = length bytes - at
 
 loop-holds : tie.Need-loop-holds Inv-loop μ-loop
-loop-holds c = search needs
+loop-holds c = refl
 
 slice-aggregate-text : tie.Need-slice-aggregate-text Inv-loop μ-loop
 slice-aggregate-text c = search needs
@@ -21,11 +27,23 @@ slice-aggregate-text c = search needs
 text-requires : tie.Need-text-requires Inv-loop μ-loop
 text-requires c κs = search needs
 
-book-at-requires : tie.Need-book-at-requires Inv-loop μ-loop
-book-at-requires c κs = search needs
+part-at-requires : tie.Need-part-at-requires Inv-loop μ-loop
+part-at-requires c κs = search needs
+
+sub-show : tie.Need-sub-show Inv-loop μ-loop
+sub-show c = omega (arith, c .part-at .ensures)
+
+part-show-start : tie.Need-part-show-start Inv-loop μ-loop
+part-show-start c = omega (arith, c .part-at .ensures)
+
+part-show-end : tie.Need-part-show-end Inv-loop μ-loop
+part-show-end c = omega (arith, c .part-at .ensures)
+
+show-requires : tie.Need-show-requires Inv-loop μ-loop
+show-requires c κs = search needs
 
 loop-less : tie.Need-loop-less Inv-loop μ-loop
-loop-less c = search needs
+loop-less c = omega (arith, c .before .before .before .before .before .part-at .ensures)
 
 loop-again : tie.Need-loop-again Inv-loop μ-loop
 loop-again c = search needs
@@ -45,7 +63,11 @@ books-spec =
     loop-holds
     slice-aggregate-text
     text-requires
-    book-at-requires
+    part-at-requires
+    sub-show
+    part-show-start
+    part-show-end
+    show-requires
     loop-less
     loop-again
     same-length

@@ -9,7 +9,7 @@ use Rattle.distances_test.proofs.map.judge.Reads as reads
 use Rattle.distances_test.proofs.map.judge.Lts as lts
 use Rattle.book.proofs.check.Reads as check-reads
 use Rattle.distances_test.proofs.map.map.Reads as map-reads
-use Rattle.distances_test.proofs.say.line.Reads as line-reads
+use Rattle.trial.proofs.line.Reads as line-reads
 
 check-requires : tie.Need-check-requires
 check-requires c κs = search needs

@@ -10,7 +10,7 @@ use Rattle.crossings.proofs.crossings.Reads as crossings-reads
 use Rattle.distances.proofs.from_start.Reads as from-start-reads
 use Rattle.distances_test.proofs.map.rows.Reads as rows-reads
 use Rattle.distances_test.proofs.map.to_last.Reads as to-last-reads
-use Rattle.distances_test.proofs.say.line.Reads as line-reads
+use Rattle.trial.proofs.line.Reads as line-reads
 
 mul-if1 : tie.Need-mul-if1
 mul-if1 c = search needs

@@ -6,7 +6,7 @@ use Rattle.distances_test.proofs.map.row.Tie as tie
 use Rattle.distances_test.proofs.map.row.Reads as reads
 use Rattle.distances_test.proofs.map.row.Lts as lts
 use Rattle.distances_test.proofs.say.cost.Reads as cost-reads
-use Rattle.distances_test.proofs.say.line.Reads as line-reads
+use Rattle.trial.proofs.line.Reads as line-reads
 
 abbrev Inv-loop : tie.InvT-loop
 Inv-loop dist t q start z₀ t6 z = z ≤ t

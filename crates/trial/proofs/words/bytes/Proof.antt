@@ -1,9 +1,12 @@
--- `lists_test::say::bytes` is safe and ends. Assumes nothing.
+-- `trial::words::bytes` is safe and ends. Assumes nothing.
 use Prim.Native.Nat.{_-_}
 use lib.ListN.{length}
 use borrow.Author.Needs.{needs}
-use Rattle.lists_test.proofs.say.bytes.Statement.{statement}
-use Rattle.lists_test.proofs.say.bytes.Tie as tie
+use Rattle.trial.proofs.words.bytes.Statement.{statement}
+use Rattle.trial.proofs.words.bytes.Tie as tie
+use Rattle.trial.proofs.words.bytes.Reads as reads
+use Rattle.trial.proofs.words.bytes.Lts as lts
+use Rattle.trial.proofs.words.byte.Reads as byte-reads
 
 abbrev Inv-loop : tie.InvT-loop
 Inv-loop s i₀ t3 i = Unit
@@ -14,17 +17,14 @@ abbrev μ-loop : tie.MeasureT-loop
 loop-holds : tie.Need-loop-holds Inv-loop μ-loop
 loop-holds c = search needs
 
-slice-aggregate-label : tie.Need-slice-aggregate-label Inv-loop μ-loop
-slice-aggregate-label c = search needs
+slice-aggregate-byte : tie.Need-slice-aggregate-byte Inv-loop μ-loop
+slice-aggregate-byte c = search needs
 
-shared-slice-read-wide : tie.Need-shared-slice-read-wide Inv-loop μ-loop
-shared-slice-read-wide c = search needs
+shared-slice-read-byte : tie.Need-shared-slice-read-byte Inv-loop μ-loop
+shared-slice-read-byte c = search needs
 
-wide-requires : tie.Need-wide-requires Inv-loop μ-loop
-wide-requires c κs = search needs
-
-label-requires : tie.Need-label-requires Inv-loop μ-loop
-label-requires c κs = search needs
+byte-requires : tie.Need-byte-requires Inv-loop μ-loop
+byte-requires c κs = search needs
 
 add-i : tie.Need-add-i Inv-loop μ-loop
 add-i c = search needs
@@ -45,10 +45,9 @@ bytes-spec =
     Inv-loop
     μ-loop
     loop-holds
-    slice-aggregate-label
-    shared-slice-read-wide
-    wide-requires
-    label-requires
+    slice-aggregate-byte
+    shared-slice-read-byte
+    byte-requires
     add-i
     loop-less
     loop-again

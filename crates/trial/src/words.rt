@@ -5,25 +5,39 @@ pub fn text(s: &[u8]) {
     io::write_all(1, s);
 }
 
+pub fn line(s: &[u8]) {
+    text(s);
+    text(b"\n");
+}
+
 // Words and a number.
 pub fn label(s: &[u8], n: usize) {
-    io::write_all(1, s);
+    text(s);
     io::print_decimal(1, n as u64);
 }
 
-fn wide(v: u8) -> usize {
-    v as usize
+// The same for a byte, for a cell, and for a mask.
+fn byte(s: &[u8], v: u8) {
+    label(s, v as usize);
+}
+
+pub fn cell(s: &[u8], v: u16) {
+    label(s, v as usize);
+}
+
+pub fn word(s: &[u8], v: u32) {
+    label(s, v as usize);
 }
 
 pub fn refusal(r: Refusal) {
-    label(b" refused ", wide(r.number));
+    byte(b" refused ", r.number);
     label(b" place ", r.place);
 }
 
 pub fn bytes(s: &[u8]) {
     let mut i: usize = 0;
     while i < s.len() {
-        label(b" ", wide(s[i]));
+        byte(b" ", s[i]);
         i += 1;
     }
 }
