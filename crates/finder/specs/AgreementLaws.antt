@@ -39,7 +39,7 @@ module _ {cells : List ℕ} {d : Sizes} {s z : ℕ} (o : Outcome) (hs : s < d .s
       (λ e. told (some (sym bit ∙ e)), λ n. bit ∙ all (sure n))
 
 -- ---- at most one answer of the sets is right
-both : (a b : Bool) → (a ≡ true → b ≡ true) → (b ≡ true → a ≡ true) → a ≡ b
+pub both : (a b : Bool) → (a ≡ true → b ≡ true) → (b ≡ true → a ≡ true) → a ≡ b
 both true b f g = sym (f refl)
 both false true f g = g refl
 both false false f g = refl

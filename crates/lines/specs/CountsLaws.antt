@@ -14,6 +14,7 @@ use Rattle.book.specs.declared.Sizes.{Sizes}
 use Rattle.walk.specs.Cost.{unreached}
 use Rattle.layers.specs.Layer.{entryIn}
 use Rattle.sets.specs.Set.{countOf}
+use Rattle.finder.specs.AgreementLaws.{both}
 use Rattle.lines.specs.Counts.{fails, pairsOf, Counts}
 
 -- the pairs whose action is error, and those among them that have a distance from the start
@@ -67,11 +68,6 @@ unfolding pairsOf
 pairs-same P Q T zero e = refl
 pairs-same P Q T (suc S) e =
     rw (count-same (P S) (Q S) T (λ z l. e S z (omega arith) l), pairs-same P Q T S (λ s z l m. e s z (omega arith) m))
-
-both : (b c : Bool) → (b ≡ true → c ≡ true) → (c ≡ true → b ≡ true) → b ≡ c
-both true c f g = sym (f refl)
-both false true f g = g refl
-both false false f g = refl
 
 pub header-one : {B : Tables} {d : Sizes} {e f e′ f′ : ℕ} → Counts B d e f → Counts B d e′ f′ → (e ≡ e′) × (f ≡ f′)
 header-one {B} {d} x y = (

@@ -8,8 +8,7 @@ use lib.ListN.{length, take, getD, length-append}
 use lib.Seq.{sets, take-append-seam, take-suc}
 use Rattle.number.specs.Lent.{over}
 use Rattle.book.specs.Tables.{Tables}
-use Rattle.walk.specs.Answer.{Outcome, Answer}
-use Rattle.walk.specs.Answer.{Unreached as Never, Long as Far, Sentence as Word}
+use Rattle.walk.specs.Answer.{Outcome, Answer, Unreached as Never, Long as Far, Sentence as Word}
 use Rattle.walk.specs.AnswerLaws.{answer-one}
 use Rattle.walk.specs.Cost.{limit}
 use Rattle.finder.specs.Finder.{Answered, found, sentence}

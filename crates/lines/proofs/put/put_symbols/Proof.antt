@@ -1,11 +1,10 @@
 -- `lines::put::put_symbols` meets its contract: one symbol after the other. Assumes nothing.
-use Prim.Native.Nat.{_-_, _≤_}
+use Prim.Native.Nat.{_-_, _≤_, _<_}
 use native.Mathlib.Nat.{le-antisymm}
 use native.Mathlib.Omega.{arith}
 use Rattle.lines.specs.DecimalLaws.{decimal-byte}
 use Rattle.lines.specs.LineLaws.{Spelt, spelt-none, spelt-more}
 use lib.ListN.{getD}
-use Prim.Native.Nat.{_<_}
 use borrow.Author.Needs.{needs}
 use Rattle.lines.proofs.put.put_symbols.Statement.{statement}
 use Rattle.lines.proofs.put.put_symbols.Tie as tie
