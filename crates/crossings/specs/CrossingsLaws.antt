@@ -1,7 +1,7 @@
 -- Laws of the crossing table: the layers from one (q, a), what a pass that lowers nothing shows, and that the table is then exact. Assumes nothing.
 use mathlib.Core.List.{List, []}
 use mathlib.Core.Logic.{_⊎_, inl, inr}
-use mathlib.Core.Path.{_≡_, refl, _∙_}
+use mathlib.Core.Path.{_≡_, refl, sym, _∙_}
 use Prim.Native.Nat.{ℕ, zero, suc, _+_, _*_, _≤_, _<_, max}
 use native.Mathlib.Decide.{ℕ-discrete}
 use native.Mathlib.Nat.{le-trans}
@@ -16,17 +16,20 @@ use Rattle.book.specs.TablesLaws.{Holds, in-range, goto-some}
 use Rattle.book.specs.declared.Sizes.{Sizes}
 use Rattle.walk.specs.Walk.{Walk, here}
 use Rattle.walk.specs.WalkLaws.{Opens}
-use Rattle.walk.specs.Cost.{unreached, Attained, Exact}
+use Rattle.walk.specs.Cost.{long, unreached, Attained, Exact}
 use Rattle.walk.specs.Claims.{Claims, Crosses, Claimed, Closed, Least}
 use Rattle.walk.specs.ClaimsLaws.{claimed-next, claimed-terminal, unopened-closed, claim-exact}
-use Rattle.walk.specs.Layers.{Longer}
-use Rattle.walk.specs.LayersLaws.{layer-here, layer-elsewhere, layer-longer, walk-longer}
+use Rattle.walk.specs.Layers.{Longer, cutAt}
+use Rattle.walk.specs.LayersLaws.{layer-here, layer-elsewhere, layer-where, where-longer, longer-whole, walk-longer}
 use Rattle.layers.specs.ActionLaws.{reduce-below}
 use Rattle.layers.specs.Crossing.{room, crossingRow, claimIn}
 use Rattle.layers.specs.CrossingLaws.{terminals-are, states-are, crossing-row-below}
-use Rattle.layers.specs.Layer.{Begun, Lengthened}
+use Rattle.layers.specs.Layer.{Begun, Wanted, LengthenedTo}
+use Rattle.layers.specs.LengthenLaws.{longer-below}
 use Rattle.crossings.specs.Crossings.{CrossingTable}
 use Rattle.crossings.specs.Pass.{Sound, Pass, Each, SettledLayer, Tried, ClosedAt, Longest, Standing, Filled}
+use Rattle.crossings.specs.Position.{Positions, Passed, Copied}
+use Rattle.crossings.specs.PositionLaws.{reduce-passed, passed-hereditary}
 use Rattle.crossings.specs.PassLaws.{pass-then, pass-map, beyond-none}
 
 -- ---- clearing
@@ -54,8 +57,8 @@ room-small d s =
     (i, j, mul-small (d .s * d .n * d .t) 131072 (d .t) 32 j (s .terminals))
 
 -- one production more
-pub longest-more : {B : Tables} {q p r n : ℕ} → Longest B q p r → (r ≤ n) × ((g : ℕ) → B .goto q (B .lhs p) ≡ suc g → B .len p ≤ n) → Longest B q (p + 1) n
-longest-more {B} {q} {p} {r} {n} l (h, f) = record { bound = λ p′ g k e. go p′ g k e (ℕ-discrete p′ p) }
+pub longest-more : {B : Tables} {q p r n : ℕ} → Longest B q p r → (r ≤ n) × (n ≤ 32) × ((g : ℕ) → B .goto q (B .lhs p) ≡ suc g → B .len p ≤ n) → Longest B q (p + 1) n
+longest-more {B} {q} {p} {r} {n} l (h, m, f) = record { bound = λ p′ g k e. go p′ g k e (ℕ-discrete p′ p); most = m }
   where
     go : (p′ g : ℕ) → p′ < p + 1 → B .goto q (B .lhs p′) ≡ suc g → Dec (p′ ≡ p) → B .len p′ ≤ n
     go p′ g k e (yes i) = rw i (f g (rw i at e))
@@ -80,10 +83,10 @@ module _ {d : Sizes} {cells : List ℕ} (h : Holds d cells) where
       blank q X a z lq lX la lz = f .inside (crossingRow d q X a + z) (omega (arith, crossing-row-below d q X a lq lX la))
 
   -- ---- the layers from (q, a)
-  pub standing-begun : {q a n : ℕ} {claim : Claims} {L : ℕ → ℕ → ℕ} → a < d .t → Begun q a L → Standing (tablesOf cells) q a 0 n claim L
-  standing-begun {q} {a} {claim} {L} ha b = record {
+  pub standing-begun : {q a n : ℕ} {claim : Claims} {L : ℕ → ℕ → ℕ} {positions : List ℕ} → a < d .t → Begun q a L → Standing (tablesOf cells) positions q a 0 n claim L
+  standing-begun {q} {a} {claim} {L} {positions} ha b = record {
     reached = record { walks = λ last z hz. walks last z hz (ℕ-discrete q last) (ℕ-discrete a z) };
-    least = λ e last z hz. least last z hz (ℕ-discrete q last) (ℕ-discrete a z);
+    least = λ e. layer-where (λ i q′ v. Passed positions i q′) (λ last z hz. least last z hz (ℕ-discrete q last) (ℕ-discrete a z));
   }
     where
       small : {z : ℕ} → z < tablesOf cells .terminals → z < 32
@@ -100,15 +103,15 @@ module _ {d : Sizes} {cells : List ℕ} (h : Holds d cells) where
       least last z hz (no i) e = rw (b .elsewhere last z (small hz) (λ x y. i x)) (layer-elsewhere (λ x y. i x))
 
   -- a layer is looked through: no production of its length is left
-  module _ {q a m n r k : ℕ} {L : ℕ → ℕ → ℕ} {t₀ t₁ t₂ : List ℕ} (i : k ≡ max n r) (s : Standing (tablesOf cells) q a m n (claimIn d t₁) L)
-      (p : Pass d cells (Each (λ j t. Tried (tablesOf cells) q a j (claimIn d t)) m) n t₀ t₁) (o : Pass d cells (SettledLayer d cells q a m L) r t₁ t₂) where
+  module _ {positions : List ℕ} (ps : Positions d (tablesOf cells) 0 positions) {q a m n r k : ℕ} {L : ℕ → ℕ → ℕ} {t₀ t₁ t₂ : List ℕ} (i : k ≡ max n r)
+      (s : Standing (tablesOf cells) positions q a m n (claimIn d t₁) L) (p : Pass d cells (Each (λ j t. Tried (tablesOf cells) q a j (claimIn d t)) m) n t₀ t₁) (o : Pass d cells (SettledLayer d cells q a m L) r t₁ t₂) where
     tried : n ≡ 0 → t₂ ≡ t₁ → SettledLayer d cells q a m L t₂ → Tried (tablesOf cells) q a m (claimIn d t₂)
     tried z same all = record {
       bound = λ {v} {z = y} {p} {last} {g} c e l x.
           let ls = in-range h .reduces last y p e .0 in
           le-trans
           (all last (rw (states-are h) at ls) y (within (claimed-next c)) .bound p g e l x)
-          (s .least z last y (claimed-next c) .below v (rw same at c));
+          (s .least z last y (claimed-next c) .below v (rw same at c) (reduce-passed h ps y e l));
     }
 
     pub tried-more : Pass d cells (Each (λ j t. Tried (tablesOf cells) q a j (claimIn d t)) (m + 1)) k t₀ t₂
@@ -120,12 +123,18 @@ module _ {d : Sizes} {cells : List ℕ} (h : Holds d cells) where
         turn z same all this j l (no e) = rw same (all j (omega arith))
 
     -- .. and lengthened
-    pub standing-longer : {L′ : ℕ → ℕ → ℕ} → Lengthened (tablesOf cells) (claimIn d t₂) L L′ → Standing (tablesOf cells) q a (m + 1) k (claimIn d t₂) L′
-    standing-longer {L′} f = rw add-one record {
-      reached = record { walks = λ last z hz. walks last z hz (f last z hz .attained) };
-      least = λ e last z hz. layer-longer (rw (o .lowered .same (omega (arith, e))) (s .least (omega (arith, e)))) (f last z hz);
+    pub standing-longer : {want : List ℕ} {L′ : ℕ → ℕ → ℕ} → Copied positions m 128 want → LengthenedTo want (tablesOf cells) (claimIn d t₂) (cutAt long L) L′
+        → Standing (tablesOf cells) positions q a (m + 1) k (claimIn d t₂) L′
+    standing-longer {want} {L′} copy f = rw add-one record {
+      reached = record { walks = λ last z hz. walks last z hz (longer-whole (f last z hz) .attained) };
+      least = λ e last z hz.
+          let whole = longer-whole (f last z hz) in
+          where-longer (passed-hereditary h ps) (rw (o .lowered .same (omega (arith, e))) (s .least (omega (arith, e)))) (λ x j y l. whole .below y l (wanted l j)) (whole .attained);
     }
       where
+        wanted : {last z y : ℕ} → Longer (tablesOf cells) (claimIn d t₂) L last z y → Passed positions (suc m) last → Wanted want last
+        wanted {last} l j = record { on = λ e. j .on m (omega arith) (sym (copy .same last (omega (arith, longer-below h l, h .small .states))) ∙ e) }
+
         walks : (last z : ℕ) → z < tablesOf cells .terminals → (L′ last z ≡ unreached) ⊎ Longer (tablesOf cells) (claimIn d t₂) L last z (L′ last z)
             → Attained (λ w. Walk (tablesOf cells) q a w z (suc m) last) (L′ last z)
         walks last z hz (inl e) = inl e

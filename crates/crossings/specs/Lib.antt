@@ -1,4 +1,6 @@
 pub mod Crossings
+pub mod Position
+pub mod PositionLaws
 pub mod Pass
 pub mod PassLaws
 pub mod ReductionLaws

@@ -9,9 +9,10 @@ use Rattle.book.specs.declared.Sizes.{Sizes}
 use Rattle.walk.specs.Walk.{Walk}
 use Rattle.walk.specs.Cost.{unreached, Attained}
 use Rattle.walk.specs.Claims.{Claims, Claimed, Witnessed}
-use Rattle.walk.specs.Layers.{Layer}
+use Rattle.walk.specs.Layers.{LayerWhere}
 use Rattle.layers.specs.Crossing.{room, claimIn}
 use Rattle.crossings.specs.Crossings.{Beyond}
+use Rattle.crossings.specs.Position.{Passed}
 
 unfoldable pub total : List ℕ → ℕ
 total [] = 0
@@ -66,14 +67,16 @@ pub record ClosedAt (B : Tables) (q a : ℕ) (claim : Claims) : Type 0 where
   pub bound : {v z p last g : ℕ} → Claimed B claim q a v z (B .len p) last → B .act last z ≡ Reduce p → B .goto q (B .lhs p) ≡ suc g
       → claim q (B .lhs p) a z ≤ v
 
--- r is at least the length of each of the first n productions whose left side q has a goto for
+-- r is at least the length of each of the first n productions whose left side q has a goto for, and 32 at most
 pub record Longest (B : Tables) (q n r : ℕ) : Type 0 where
   pub bound : (p g : ℕ) → p < n → B .goto q (B .lhs p) ≡ suc g → B .len p ≤ r
+  pub most : r ≤ 32
 
--- a layer of m transitions from (q, a) while n claims were lowered: its costs are those of walks, and the least where n is 0
-pub record Standing (B : Tables) (q a m n : ℕ) (claim : Claims) (L : ℕ → ℕ → ℕ) : Type 0 where
+-- a layer of m transitions from (q, a) while n claims were lowered: its costs are those of walks, and where n is 0 the least in the states
+-- that a walk over a whole production passes
+pub record Standing (B : Tables) (positions : List ℕ) (q a m n : ℕ) (claim : Claims) (L : ℕ → ℕ → ℕ) : Type 0 where
   pub reached : Reached B q a m L
-  pub least : n ≡ 0 → Layer B claim q a m L
+  pub least : n ≡ 0 → LayerWhere B claim (λ i q′ v. Passed positions i q′) q a m L
 
 -- the first n cells are unreached, and the others as they were
 pub record Filled (n : ℕ) (old new : List ℕ) : Type 0 where

@@ -8,7 +8,7 @@ use native.Mathlib.Omega.{arith}
 use lib.ListN.{length, getD, set, length-set}
 use lib.Seq.{getD-set-same, getD-set-other}
 use Rattle.book.specs.Tables.{tablesOf}
-use Rattle.book.specs.TablesLaws.{Holds, goto-some, left-side-below}
+use Rattle.book.specs.TablesLaws.{Holds, goto-some, left-side-below, length-most}
 use Rattle.book.specs.declared.Action.{Action}
 use Rattle.book.specs.declared.Action.the-variants.{Error, Accept, Shift, Reduce}
 use Rattle.book.specs.declared.Sizes.{Sizes}
@@ -33,6 +33,10 @@ module _ {d : Sizes} {cells : List ℕ} (h : Holds d cells) where
   pub left-below : (p : ℕ) → p < d .p → tablesOf cells .lhs p < d .n
   unfolding tablesOf
   left-below p l = left-side-below h p l
+
+  pub length-below : (p : ℕ) → p < d .p → tablesOf cells .len p ≤ 32
+  unfolding tablesOf
+  length-below p l = length-most h p l
 
   pub sound-quiet : {table : List ℕ} → Sound d cells table → Quiet (tablesOf cells) (claimIn d table)
   sound-quiet s = record { unopened = λ o ha hz g. unopened-unreached (s .witnessed) o ha hz g }

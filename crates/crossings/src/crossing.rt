@@ -5,14 +5,18 @@ ghost use Rattle.book.specs.Tables.{tablesOf};
 ghost use Rattle.book.specs.TablesLaws.{Holds};
 ghost use Rattle.layers.specs.Crossing.{room, claimIn};
 ghost use Rattle.crossings.specs.Crossings.{CrossingTable, Beyond};
+ghost use Rattle.crossings.specs.Position.{Positions};
 ghost use Rattle.crossings.specs.Pass.{Sound, Pass, Each, ClosedAt, Longest, Filled};
+use crate::position::copy_row;
+use crate::position::mark_all;
 use crate::production::longest;
 use crate::reduction::most;
 use crate::reduction::reduce_layer;
 use book::Sizes;
 use layers::begin;
-use layers::lengthen;
+use layers::lengthen_within;
 use layers::opens;
+use walk::LONG;
 use walk::UNREACHED;
 
 fn clear(table: &mut [u16], n: usize)
@@ -26,10 +30,19 @@ fn clear(table: &mut [u16], n: usize)
     }
 }
 
-// What begins in (q, a): the layers up to the longest production, and the reductions in each.
-fn cross_from(cells: &[u16], d: Sizes, table: &mut [u16], q: usize, a: usize, len: usize) -> usize
+// What begins in (q, a): the layers up to the longest production, each in the states that a production passes, and the reductions in each.
+fn cross_from(
+    cells: &[u16],
+    d: Sizes,
+    positions: &[u8; 4096],
+    table: &mut [u16],
+    q: usize,
+    a: usize,
+    len: usize,
+) -> usize
     requires { ⌜ Holds d (now cells) ⌝ }
     requires { ⌜ (q < d .s) × (a < d .t) ⌝ }
+    requires { ⌜ Positions d (tablesOf (now cells)) 0 (now positions) ⌝ }
     requires { ⌜ Sound d (now cells) (now table) ⌝ }
     requires { ⌜ Longest (tablesOf (now cells)) q (d .p) len ⌝ }
     ensures { λ r. ⌜ Pass d (now (cells .entry)) (λ t. ClosedAt (tablesOf (now (cells .entry))) q a (claimIn d t)) r (now (table .entry)) (now (table .exit)) ⌝ }
@@ -41,12 +54,24 @@ fn cross_from(cells: &[u16], d: Sizes, table: &mut [u16], q: usize, a: usize, le
     let mut flags = [0u8; 128];
     let mut next = [UNREACHED; 4096];
     let mut next_flags = [0u8; 128];
+    let mut wanted = [0u8; 128];
     begin(&mut values, &mut flags, q, a);
     let mut n: usize = 0;
     let mut m: usize = 0;
     while m < len {
         n = most(n, reduce_layer(cells, d, table, q, a, m, &values, &flags));
-        lengthen(cells, d, table, &values, &flags, &mut next, &mut next_flags);
+        copy_row(positions, m, &mut wanted);
+        lengthen_within(
+            cells,
+            d,
+            table,
+            LONG,
+            &wanted,
+            &values,
+            &flags,
+            &mut next,
+            &mut next_flags,
+        );
         values = next;
         flags = next_flags;
         m += 1;
@@ -54,9 +79,16 @@ fn cross_from(cells: &[u16], d: Sizes, table: &mut [u16], q: usize, a: usize, le
     most(n, reduce_layer(cells, d, table, q, a, m, &values, &flags))
 }
 
-fn cross_state(cells: &[u16], d: Sizes, table: &mut [u16], q: usize) -> usize
+fn cross_state(
+    cells: &[u16],
+    d: Sizes,
+    positions: &[u8; 4096],
+    table: &mut [u16],
+    q: usize,
+) -> usize
     requires { ⌜ Holds d (now cells) ⌝ }
     requires { ⌜ q < d .s ⌝ }
+    requires { ⌜ Positions d (tablesOf (now cells)) 0 (now positions) ⌝ }
     requires { ⌜ Sound d (now cells) (now table) ⌝ }
     ensures { λ r. ⌜ Pass d (now (cells .entry)) (Each (λ a t. ClosedAt (tablesOf (now (cells .entry))) q a (claimIn d t)) (d .t)) r (now (table .entry)) (now (table .exit)) ⌝ }
 {
@@ -65,15 +97,16 @@ fn cross_state(cells: &[u16], d: Sizes, table: &mut [u16], q: usize) -> usize
     let mut n: usize = 0;
     let mut a: usize = 0;
     while a < t {
-        n = most(n, cross_from(cells, d, table, q, a, len));
+        n = most(n, cross_from(cells, d, positions, table, q, a, len));
         a += 1;
     }
     n
 }
 
 // One pass over every state and terminal. 0 if no claim was lowered.
-fn pass(cells: &[u16], d: Sizes, table: &mut [u16]) -> usize
+fn pass(cells: &[u16], d: Sizes, positions: &[u8; 4096], table: &mut [u16]) -> usize
     requires { ⌜ Holds d (now cells) ⌝ }
+    requires { ⌜ Positions d (tablesOf (now cells)) 0 (now positions) ⌝ }
     requires { ⌜ Sound d (now cells) (now table) ⌝ }
     ensures { λ r. ⌜ Pass d (now (cells .entry)) (Each (λ q. Each (λ a t. ClosedAt (tablesOf (now (cells .entry))) q a (claimIn d t)) (d .t)) (d .s)) r (now (table .entry)) (now (table .exit)) ⌝ }
 {
@@ -81,7 +114,7 @@ fn pass(cells: &[u16], d: Sizes, table: &mut [u16]) -> usize
     let mut n: usize = 0;
     let mut q: usize = 0;
     while q < s {
-        n = most(n, cross_state(cells, d, table, q));
+        n = most(n, cross_state(cells, d, positions, table, q));
         q += 1;
     }
     n
@@ -98,8 +131,10 @@ pub fn crossings(cells: &[u16], d: Sizes, table: &mut [u16])
     let n = d.n;
     let s = d.s;
     clear(table, s * n * t * t);
+    let mut positions = [0u8; 4096];
+    mark_all(cells, d, &mut positions);
     let mut lowered: usize = 1;
     while lowered != 0 {
-        lowered = pass(cells, d, table);
+        lowered = pass(cells, d, &positions, table);
     }
 }

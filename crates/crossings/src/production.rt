@@ -10,11 +10,11 @@ use book::goto_at;
 use book::left_side;
 use book::production_length;
 
-// At least r, and the length of production p if q has a goto for its left side.
+// At least r, 32 at most, and at least the length of production p if q has a goto for its left side.
 fn longer(cells: &[u16], d: Sizes, q: usize, p: usize, r: usize) -> usize
     requires { ⌜ Holds d (now cells) ⌝ }
-    requires { ⌜ (q < d .s) × (p < d .p) ⌝ }
-    ensures { λ n. ⌜ (r ≤ n) × ((g : ℕ) → tablesOf (now (cells .entry)) .goto q (tablesOf (now (cells .entry)) .lhs p) ≡ suc g → tablesOf (now (cells .entry)) .len p ≤ n) ⌝ }
+    requires { ⌜ (q < d .s) × (p < d .p) × (r ≤ 32) ⌝ }
+    ensures { λ n. ⌜ (r ≤ n) × (n ≤ 32) × ((g : ℕ) → tablesOf (now (cells .entry)) .goto q (tablesOf (now (cells .entry)) .lhs p) ≡ suc g → tablesOf (now (cells .entry)) .len p ≤ n) ⌝ }
 {
     let x = left_side(cells, d, p) as usize;
     if goto_at(cells, d, q, x) == 0 {

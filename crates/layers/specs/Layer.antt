@@ -7,7 +7,7 @@ use lib.Dec.{eqb}
 use lib.ListN.{length, getD}
 use Rattle.book.specs.Tables.{Tables}
 use Rattle.walk.specs.Cost.{unreached}
-use Rattle.walk.specs.Claims.{Claims, Least}
+use Rattle.walk.specs.Claims.{Claims, Least, LeastWhere}
 use Rattle.walk.specs.Layers.{Longer}
 
 pub record Sized (values flags : List ℕ) : Type 0 where
@@ -30,3 +30,11 @@ pub record Begun (q a : ℕ) (L : ℕ → ℕ → ℕ) : Type 0 where
 -- L′ is the layer after one transition more than L
 abbrev pub Lengthened : Tables → Claims → (ℕ → ℕ → ℕ) → (ℕ → ℕ → ℕ) → Type 0
 Lengthened B claim L L′ = (q z : ℕ) → z < B .terminals → Least (Longer B claim L q z) (L′ q z)
+
+-- the flag of a state is set: its costs are wanted
+pub record Wanted (want : List ℕ) (q : ℕ) : Type 0 where
+  pub on : ¬ (getD want q 0 ≡ 0)
+
+-- .. in the states that are wanted
+abbrev pub LengthenedTo : List ℕ → Tables → Claims → (ℕ → ℕ → ℕ) → (ℕ → ℕ → ℕ) → Type 0
+LengthenedTo want B claim L L′ = (q z : ℕ) → z < B .terminals → LeastWhere (λ v. Wanted want q) (Longer B claim L q z) (L′ q z)

@@ -9,6 +9,7 @@ use Rattle.book.specs.declared.Action.the-variants.{Shift}
 use Rattle.book.specs.declared.Sizes.{Sizes}
 use Rattle.walk.specs.Cost.{unreached, plus}
 use Rattle.walk.specs.Claims.{Claims}
+use Rattle.layers.specs.Layer.{Wanted}
 
 -- `P q z w` says that w is a candidate for the entry (q, z). Each entry of `new` is the least of what it was and its candidates
 -- below unreached
@@ -28,16 +29,16 @@ Level g v j q z w = (q ≡ g) × (z ≡ j) × (w ≡ v)
 abbrev pub Relaxed : ℕ → List ℕ → ℕ → ℕ → ℕ → ℕ → ℕ → ℕ → Type 0
 Relaxed g row start v j q z w = (q ≡ g) × (z ≡ j) × (w ≡ plus v (getD row (start + j) 0))
 
--- from (q₁, b), reached at the cost v: by the shift of b, and by the goto under X
-abbrev pub ByShift : Sizes → Tables → ℕ → ℕ → ℕ → ℕ → ℕ → ℕ → Type 0
-ByShift d B q₁ b v q z w = (B .act q₁ b ≡ Shift q) × (z < d .t) × (w ≡ plus v 1)
+-- from (q₁, b), reached at the cost v, to a wanted state: by the shift of b, and by the goto under X
+abbrev pub ByShift : Sizes → List ℕ → Tables → ℕ → ℕ → ℕ → ℕ → ℕ → ℕ → Type 0
+ByShift d want B q₁ b v q z w = (B .act q₁ b ≡ Shift q) × (z < d .t) × (w ≡ plus v 1) × Wanted want q
 
-abbrev pub ByGoto : Sizes → Tables → Claims → ℕ → ℕ → ℕ → ℕ → ℕ → ℕ → ℕ → Type 0
-ByGoto d B claim q₁ b v X q z w = (B .goto q₁ X ≡ suc q) × (z < d .t) × (w ≡ plus v (claim q₁ X b z))
+abbrev pub ByGoto : Sizes → List ℕ → Tables → Claims → ℕ → ℕ → ℕ → ℕ → ℕ → ℕ → ℕ → Type 0
+ByGoto d want B claim q₁ b v X q z w = (B .goto q₁ X ≡ suc q) × (z < d .t) × (w ≡ plus v (claim q₁ X b z)) × Wanted want q
 
-abbrev pub Leaves : Sizes → Tables → Claims → ℕ → ℕ → ℕ → ℕ → ℕ → ℕ → Type 0
-Leaves d B claim q₁ b v q z w = ByShift d B q₁ b v q z w ⊎ Upto (ByGoto d B claim q₁ b v) (d .n) q z w
+abbrev pub Leaves : Sizes → List ℕ → Tables → Claims → ℕ → ℕ → ℕ → ℕ → ℕ → ℕ → Type 0
+Leaves d want B claim q₁ b v q z w = ByShift d want B q₁ b v q z w ⊎ Upto (ByGoto d want B claim q₁ b v) (d .n) q z w
 
 -- from every terminal of a state in a layer
-abbrev pub LeavesState : Sizes → Tables → Claims → (ℕ → ℕ → ℕ) → ℕ → ℕ → ℕ → ℕ → Type 0
-LeavesState d B claim L q₁ = Upto (λ b. Leaves d B claim q₁ b (L q₁ b)) (d .t)
+abbrev pub LeavesState : Sizes → List ℕ → Tables → Claims → (ℕ → ℕ → ℕ) → ℕ → ℕ → ℕ → ℕ → Type 0
+LeavesState d want B claim L q₁ = Upto (λ b. Leaves d want B claim q₁ b (L q₁ b)) (d .t)

@@ -10,7 +10,7 @@ ghost use Rattle.walk.specs.Cost.{long, cut};
 ghost use Rattle.walk.specs.Layers.{cutAt};
 ghost use Rattle.walk.specs.WalkLaws.{Opens};
 ghost use Rattle.layers.specs.Crossing.{room, crossingRow, claimIn, Quiet};
-ghost use Rattle.layers.specs.Layer.{Sized, valueIn, Lengthened};
+ghost use Rattle.layers.specs.Layer.{Sized, valueIn, Lengthened, LengthenedTo};
 ghost use Rattle.layers.specs.Step.{Step, Upto, ByShift, ByGoto, Leaves, LeavesState};
 use crate::row::level;
 use crate::row::relax;
@@ -52,6 +52,7 @@ pub fn crossing_row(d: Sizes, q: usize, x: usize, a: usize) -> usize
 fn shift_from(
     cells: &[u16],
     d: Sizes,
+    wanted: &[u8; 128],
     q: usize,
     a: usize,
     v: u16,
@@ -62,11 +63,14 @@ fn shift_from(
     requires { ⌜ (q < d .s) × (a < d .t) ⌝ }
     requires { ⌜ Sized (now values) (now flags) ⌝ }
     ensures { λ _. ⌜ Sized (now (values .exit)) (now (flags .exit)) ⌝ }
-    ensures { λ _. ⌜ Step (ByShift d (tablesOf (now (cells .entry))) q a v) (valueIn (now (values .entry)) (now (flags .entry))) (valueIn (now (values .exit)) (now (flags .exit))) ⌝ }
+    ensures { λ _. ⌜ Step (ByShift d (now (wanted .entry)) (tablesOf (now (cells .entry))) q a v) (valueIn (now (values .entry)) (now (flags .entry))) (valueIn (now (values .exit)) (now (flags .exit))) ⌝ }
 {
     let t = d.t;
     match action_at(cells, d, q, a) {
         Action::Shift(s) => {
+            if wanted[s as usize] == 0 {
+                return;
+            }
             turn_on(values, flags, s as usize);
             level(values, s as usize, t, add(v, 1));
         }
@@ -81,6 +85,7 @@ fn goto_from(
     cells: &[u16],
     d: Sizes,
     table: &[u16],
+    wanted: &[u8; 128],
     q: usize,
     a: usize,
     v: u16,
@@ -92,13 +97,16 @@ fn goto_from(
     requires { ⌜ (q < d .s) × (a < d .t) × (x < d .n) × (room d ≤ length (now table)) ⌝ }
     requires { ⌜ Sized (now values) (now flags) ⌝ }
     ensures { λ _. ⌜ Sized (now (values .exit)) (now (flags .exit)) ⌝ }
-    ensures { λ _. ⌜ Step (ByGoto d (tablesOf (now (cells .entry))) (claimIn d (now (table .entry))) q a v x) (valueIn (now (values .entry)) (now (flags .entry))) (valueIn (now (values .exit)) (now (flags .exit))) ⌝ }
+    ensures { λ _. ⌜ Step (ByGoto d (now (wanted .entry)) (tablesOf (now (cells .entry))) (claimIn d (now (table .entry))) q a v x) (valueIn (now (values .entry)) (now (flags .entry))) (valueIn (now (values .exit)) (now (flags .exit))) ⌝ }
 {
     let target = goto_at(cells, d, q, x);
     if target == 0 {
         return;
     }
     let g = (target - 1) as usize;
+    if wanted[g] == 0 {
+        return;
+    }
     let t = d.t;
     let start = crossing_row(d, q, x, a);
     turn_on(values, flags, g);
@@ -109,6 +117,7 @@ fn gotos_from(
     cells: &[u16],
     d: Sizes,
     table: &[u16],
+    wanted: &[u8; 128],
     q: usize,
     a: usize,
     v: u16,
@@ -119,12 +128,12 @@ fn gotos_from(
     requires { ⌜ (q < d .s) × (a < d .t) × (room d ≤ length (now table)) ⌝ }
     requires { ⌜ Sized (now values) (now flags) ⌝ }
     ensures { λ _. ⌜ Sized (now (values .exit)) (now (flags .exit)) ⌝ }
-    ensures { λ _. ⌜ Step (Upto (ByGoto d (tablesOf (now (cells .entry))) (claimIn d (now (table .entry))) q a v) (d .n)) (valueIn (now (values .entry)) (now (flags .entry))) (valueIn (now (values .exit)) (now (flags .exit))) ⌝ }
+    ensures { λ _. ⌜ Step (Upto (ByGoto d (now (wanted .entry)) (tablesOf (now (cells .entry))) (claimIn d (now (table .entry))) q a v) (d .n)) (valueIn (now (values .entry)) (now (flags .entry))) (valueIn (now (values .exit)) (now (flags .exit))) ⌝ }
 {
     let n = d.n;
     let mut x: usize = 0;
     while x < n {
-        goto_from(cells, d, table, q, a, v, x, values, flags);
+        goto_from(cells, d, table, wanted, q, a, v, x, values, flags);
         x += 1;
     }
 }
@@ -135,6 +144,7 @@ fn leave(
     d: Sizes,
     table: &[u16],
     bound: u16,
+    wanted: &[u8; 128],
     q: usize,
     a: usize,
     v: u16,
@@ -146,7 +156,7 @@ fn leave(
     requires { ⌜ Quiet (tablesOf (now cells)) (claimIn d (now table)) ⌝ }
     requires { ⌜ Sized (now values) (now flags) ⌝ }
     ensures { λ _. ⌜ Sized (now (values .exit)) (now (flags .exit)) ⌝ }
-    ensures { λ _. ⌜ Step (Leaves d (tablesOf (now (cells .entry))) (claimIn d (now (table .entry))) q a (cut bound v)) (valueIn (now (values .entry)) (now (flags .entry))) (valueIn (now (values .exit)) (now (flags .exit))) ⌝ }
+    ensures { λ _. ⌜ Step (Leaves d (now (wanted .entry)) (tablesOf (now (cells .entry))) (claimIn d (now (table .entry))) q a (cut bound v)) (valueIn (now (values .entry)) (now (flags .entry))) (valueIn (now (values .exit)) (now (flags .exit))) ⌝ }
 {
     if v > bound {
         return;
@@ -154,8 +164,8 @@ fn leave(
     if !opens(cells, d, q, a) {
         return;
     }
-    shift_from(cells, d, q, a, v, values, flags);
-    gotos_from(cells, d, table, q, a, v, values, flags);
+    shift_from(cells, d, wanted, q, a, v, values, flags);
+    gotos_from(cells, d, table, wanted, q, a, v, values, flags);
 }
 
 // From every terminal of state q in a layer.
@@ -164,6 +174,7 @@ fn leave_state(
     d: Sizes,
     table: &[u16],
     bound: u16,
+    wanted: &[u8; 128],
     from: &[u16; 4096],
     on: &[u8; 128],
     q: usize,
@@ -175,7 +186,7 @@ fn leave_state(
     requires { ⌜ Quiet (tablesOf (now cells)) (claimIn d (now table)) ⌝ }
     requires { ⌜ Sized (now values) (now flags) ⌝ }
     ensures { λ _. ⌜ Sized (now (values .exit)) (now (flags .exit)) ⌝ }
-    ensures { λ _. ⌜ Step (LeavesState d (tablesOf (now (cells .entry))) (claimIn d (now (table .entry))) (cutAt bound (valueIn (now (from .entry)) (now (on .entry)))) q) (valueIn (now (values .entry)) (now (flags .entry))) (valueIn (now (values .exit)) (now (flags .exit))) ⌝ }
+    ensures { λ _. ⌜ Step (LeavesState d (now (wanted .entry)) (tablesOf (now (cells .entry))) (claimIn d (now (table .entry))) (cutAt bound (valueIn (now (from .entry)) (now (on .entry)))) q) (valueIn (now (values .entry)) (now (flags .entry))) (valueIn (now (values .exit)) (now (flags .exit))) ⌝ }
 {
     if on[q] == 0 {
         return;
@@ -184,17 +195,29 @@ fn leave_state(
     let row = q * 32;
     let mut a: usize = 0;
     while a < t {
-        leave(cells, d, table, bound, q, a, from[row + a], values, flags);
+        leave(
+            cells,
+            d,
+            table,
+            bound,
+            wanted,
+            q,
+            a,
+            from[row + a],
+            values,
+            flags,
+        );
         a += 1;
     }
 }
 
-// The layer after one transition more, where costs above the bound are left out.
+// The layer after one transition more, where costs above the bound and states that are not wanted are left out.
 pub fn lengthen_within(
     cells: &[u16],
     d: Sizes,
     table: &[u16],
     bound: u16,
+    wanted: &[u8; 128],
     from: &[u16; 4096],
     on: &[u8; 128],
     values: &mut [u16; 4096],
@@ -205,13 +228,13 @@ pub fn lengthen_within(
     requires { ⌜ Quiet (tablesOf (now cells)) (claimIn d (now table)) ⌝ }
     requires { ⌜ length (now values) ≡ 4096 ⌝ }
     ensures { λ _. ⌜ Sized (now (values .exit)) (now (flags .exit)) ⌝ }
-    ensures { λ _. ⌜ Lengthened (tablesOf (now (cells .entry))) (claimIn d (now (table .entry))) (cutAt bound (valueIn (now (from .entry)) (now (on .entry)))) (valueIn (now (values .exit)) (now (flags .exit))) ⌝ }
+    ensures { λ _. ⌜ LengthenedTo (now (wanted .entry)) (tablesOf (now (cells .entry))) (claimIn d (now (table .entry))) (cutAt bound (valueIn (now (from .entry)) (now (on .entry)))) (valueIn (now (values .exit)) (now (flags .exit))) ⌝ }
 {
     *flags = [0; 128];
     let s = d.s;
     let mut q: usize = 0;
     while q < s {
-        leave_state(cells, d, table, bound, from, on, q, values, flags);
+        leave_state(cells, d, table, bound, wanted, from, on, q, values, flags);
         q += 1;
     }
 }
@@ -233,5 +256,6 @@ pub fn lengthen(
     ensures { λ _. ⌜ Sized (now (values .exit)) (now (flags .exit)) ⌝ }
     ensures { λ _. ⌜ Lengthened (tablesOf (now (cells .entry))) (claimIn d (now (table .entry))) (valueIn (now (from .entry)) (now (on .entry))) (valueIn (now (values .exit)) (now (flags .exit))) ⌝ }
 {
-    lengthen_within(cells, d, table, LONG, from, on, values, flags);
+    let wanted = [1u8; 128];
+    lengthen_within(cells, d, table, LONG, &wanted, from, on, values, flags);
 }

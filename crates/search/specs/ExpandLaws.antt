@@ -19,7 +19,7 @@ use Rattle.walk.specs.CostLaws.{plus-mono, plus-far-left, plus-far-right}
 use Rattle.walk.specs.Claims.{Claims, Claimed, Least}
 use Rattle.walk.specs.ClaimsLaws.{claimed-next, claimed-terminal, Start, nowhere, shift-first, goto-first, claimed-start}
 use Rattle.walk.specs.Layers.{Layer, LayerWithin, cutAt}
-use Rattle.walk.specs.LayersLaws.{layer-here, layer-elsewhere, within-longer, within-cut}
+use Rattle.walk.specs.LayersLaws.{layer-here, layer-elsewhere, bound-hereditary, where-longer, within-cut}
 use Rattle.layers.specs.ActionLaws.{reduce-below}
 use Rattle.layers.specs.Layer.{Begun, Lengthened}
 use Rattle.layers.specs.Crossing.{Quiet}
@@ -158,4 +158,4 @@ module _ {B : Tables} {claim : Claims} where
       go (no e) f = rw (b .elsewhere q′ z (omega arith) (λ i j. e i)) (layer-elsewhere (λ i j. e i))
 
   pub layer-next : {q a m bound : ℕ} {L L′ : ℕ → ℕ → ℕ} → LayerWithin B claim bound q a m L → Lengthened B claim (cutAt bound L) L′ → LayerWithin B claim bound q a (m + 1) L′
-  layer-next {q} {a} {m} l n q′ z hz = rw add-one (within-longer (within-cut l) (n q′ z hz))
+  layer-next {q} {a} {m} {bound} l n q′ z hz = rw add-one (where-longer (bound-hereditary bound) (within-cut l) (λ x i. n q′ z hz .below) (n q′ z hz .attained))

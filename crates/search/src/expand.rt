@@ -248,6 +248,7 @@ pub fn expand(
     let mut on = [0u8; 128];
     let mut next = [UNREACHED; 4096];
     let mut next_on = [0u8; 128];
+    let wanted = [1u8; 128];
     begin(&mut values, &mut on, g, a);
     let mut m: usize = 0;
     while m < last {
@@ -257,6 +258,7 @@ pub fn expand(
             d,
             table,
             bound,
+            &wanted,
             &values,
             &on,
             &mut next,

@@ -53,9 +53,9 @@ pub record Least (P : ℕ → Type 0) (v : ℕ) : Type 0 where
   pub below : (x : ℕ) → P x → v ≤ x
   pub attained : (v ≡ unreached) ⊎ P v
 
--- v is that as far as a bound: no cost in P up to the bound is less
-pub record LeastWithin (bound : ℕ) (P : ℕ → Type 0) (v : ℕ) : Type 0 where
-  pub below : (x : ℕ) → P x → x ≤ bound → v ≤ x
+-- v is that as far as C says: no cost in P of which C holds is less
+pub record LeastWhere (C P : ℕ → Type 0) (v : ℕ) : Type 0 where
+  pub below : (x : ℕ) → P x → C x → v ≤ x
   pub attained : (v ≡ unreached) ⊎ P v
 
 -- a claimed walk from the start to state s with z next, of any number of transitions

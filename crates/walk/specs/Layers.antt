@@ -5,7 +5,7 @@ use Prim.Native.Nat.{ℕ, suc, _≤_, _<_}
 use Rattle.book.specs.Tables.{Tables}
 use Rattle.book.specs.declared.Action.the-variants.{Shift}
 use Rattle.walk.specs.Cost.{unreached, plus, cut}
-use Rattle.walk.specs.Claims.{Claims, Claimed, Least, LeastWithin, Arrival, Onward}
+use Rattle.walk.specs.Claims.{Claims, Claimed, Least, LeastWhere, Arrival, Onward}
 
 -- L has a cost for each state and next terminal; Longer B claim L q z v: from there one transition more leads to (q, z), at the cost v
 pub data Longer (B : Tables) (claim : Claims) (L : ℕ → ℕ → ℕ) : ℕ → ℕ → ℕ → Type 0 where
@@ -22,9 +22,22 @@ pub data Sooner (B : Tables) (claim : Claims) (G : ℕ → ℕ → ℕ) (q a : �
 abbrev pub Layer : Tables → Claims → ℕ → ℕ → ℕ → (ℕ → ℕ → ℕ) → Type 0
 Layer B claim q a n L = (q′ z : ℕ) → z < B .terminals → Least (λ v. Claimed B claim q a v z n q′) (L q′ z)
 
+-- .. as far as C says, of a number of transitions, a state and a cost
+abbrev pub LayerWhere : Tables → Claims → (ℕ → ℕ → ℕ → Type 0) → ℕ → ℕ → ℕ → (ℕ → ℕ → ℕ) → Type 0
+LayerWhere B claim C q a n L = (q′ z : ℕ) → z < B .terminals → LeastWhere (C n q′) (λ v. Claimed B claim q a v z n q′) (L q′ z)
+
 -- .. as far as a bound
 abbrev pub LayerWithin : Tables → Claims → ℕ → ℕ → ℕ → ℕ → (ℕ → ℕ → ℕ) → Type 0
-LayerWithin B claim bound q a n L = (q′ z : ℕ) → z < B .terminals → LeastWithin bound (λ v. Claimed B claim q a v z n q′) (L q′ z)
+LayerWithin B claim bound = LayerWhere B claim (λ n q x. x ≤ bound)
+
+-- one transition leads from q₁ to q₂
+pub data Leads (B : Tables) (q₁ q₂ : ℕ) : Type 0 where
+  by-shift : {t : ℕ} → B .act q₁ t ≡ Shift q₂ → Leads B q₁ q₂
+  by-goto : {X : ℕ} → B .goto q₁ X ≡ suc q₂ → Leads B q₁ q₂
+
+-- what C holds of, it holds of one transition before
+pub record Hereditary (B : Tables) (C : ℕ → ℕ → ℕ → Type 0) : Type 0 where
+  pub before : {n q₁ q₂ : ℕ} (v w : ℕ) → v ≤ unreached → Leads B q₁ q₂ → C (suc n) q₂ (plus v w) → C n q₁ v
 
 -- a table of costs, each cut at the bound
 abbrev pub cutAt : ℕ → (ℕ → ℕ → ℕ) → ℕ → ℕ → ℕ

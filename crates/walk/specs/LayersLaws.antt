@@ -9,9 +9,13 @@ use Rattle.book.specs.Tables.{Tables}
 use Rattle.walk.specs.Walk.{Walk}
 use Rattle.walk.specs.Cost.{long, unreached, plus, cut, Attained}
 use Rattle.walk.specs.CostLaws.{plus-mono, plus-far-left, plus-far-right, plus-left-le, cut-within, cut-beyond, plus-cut}
-use Rattle.walk.specs.Claims.{Claims, Claimed, none, shifting, crossing, Witnessed, Least, LeastWithin, Arrival, Onward}
+use Rattle.walk.specs.Claims.{Claims, Claimed, none, shifting, crossing, Witnessed, Least, LeastWhere, Arrival, Onward}
 use Rattle.walk.specs.ClaimsLaws.{attained-shift, attained-cross, claimed-next, claimed-bounded, claimed-terminal, claimed-shift, claimed-goto, Start, nowhere, shift-first, goto-first, claimed-start}
-use Rattle.walk.specs.Layers.{Longer, add-shift, add-goto, Sooner, from-shift, from-goto, Layer, LayerWithin, cutAt, FromStart, ToGoal}
+use Rattle.walk.specs.Layers.{Longer, add-shift, add-goto, Sooner, from-shift, from-goto, Layer, LayerWhere, LayerWithin, cutAt, Leads, by-shift, by-goto, Hereditary, FromStart, ToGoal}
+
+-- a walk costs no less than its part before the last transition
+pub bound-hereditary : {B : Tables} (bound : ℕ) → Hereditary B (λ n q x. x ≤ bound)
+bound-hereditary bound = record { before = λ v w h e i. le-trans (plus-left-le v w h) i }
 
 module _ {B : Tables} {claim : Claims} where
   -- the layer of no transitions
@@ -24,41 +28,38 @@ module _ {B : Tables} {claim : Claims} where
       away : {q a v q′ z : ℕ} → (q ≡ q′ → a ≡ z → ⊥) → ¬ Claimed B claim q a v z 0 q′
       away f (none h) = f refl refl
 
-  -- one more transition, as far as a bound ..
-  pub within-longer : {q a n q′ z d bound : ℕ} {L : ℕ → ℕ → ℕ} → LayerWithin B claim bound q a n L → Least (Longer B claim L q′ z) d
-      → LeastWithin bound (λ v. Claimed B claim q a v z (suc n) q′) d
-  within-longer {q} {a} {n} {q′} {z} {d} {bound} {L} l m = record { below = λ x c h. low c h m; attained = ⊎-elim inl (λ x. up x) (m .attained) }
+  -- one more transition, as far as C says
+  pub where-longer : {q a n q′ z d : ℕ} {C : ℕ → ℕ → ℕ → Type 0} {L : ℕ → ℕ → ℕ} → Hereditary B C → LayerWhere B claim C q a n L
+      → ((x : ℕ) → C (suc n) q′ x → (y : ℕ) → Longer B claim L q′ z y → d ≤ y) → (d ≡ unreached) ⊎ Longer B claim L q′ z d
+      → LeastWhere (C (suc n) q′) (λ v. Claimed B claim q a v z (suc n) q′) d
+  where-longer {q} {a} {n} {q′} {z} {d} {C} {L} k l m o = record { below = λ x c i. low c i (m x i); attained = ⊎-elim inl (λ x. up x) o }
     where
-      -- a walk costs no less than its part before the last transition
-      nearer : {v b q₁ : ℕ} (w : ℕ) → Claimed B claim q a v b n q₁ → plus v w ≤ bound → L q₁ b ≤ v
-      nearer {v} {b} {q₁} w c h = l q₁ b (claimed-next c) .below v c (le-trans (plus-left-le v w (claimed-bounded c)) h)
+      nearer : {v b q₁ q₂ : ℕ} (w : ℕ) → Claimed B claim q a v b n q₁ → Leads B q₁ q₂ → C (suc n) q₂ (plus v w) → L q₁ b ≤ v
+      nearer {v} {b} {q₁} w c e i = l q₁ b (claimed-next c) .below v c (k .before v w (claimed-bounded c) e i)
 
-      low : {x d q′ z : ℕ} → Claimed B claim q a x z (suc n) q′ → x ≤ bound → Least (Longer B claim L q′ z) d → d ≤ x
-      low (shifting z c e h) k m = le-trans (m .below _ (add-shift z (claimed-next c) e h)) (plus-mono (nearer 1 c k) (le-refl 1))
-      low (crossing {b} {q₁} X z c g h) k m = le-trans (m .below _ (add-goto X b z (claimed-next c) g h)) (plus-mono (nearer (claim q₁ X b z) c k) (le-refl _))
+      low : {x d q′ z : ℕ} → Claimed B claim q a x z (suc n) q′ → C (suc n) q′ x → ((y : ℕ) → Longer B claim L q′ z y → d ≤ y) → d ≤ x
+      low (shifting z c e h) i m = le-trans (m _ (add-shift z (claimed-next c) e h)) (plus-mono (nearer 1 c (by-shift e) i) (le-refl 1))
+      low (crossing {b} {q₁} X z c g h) i m = le-trans (m _ (add-goto X b z (claimed-next c) g h)) (plus-mono (nearer (claim q₁ X b z) c (by-goto g) i) (le-refl _))
 
       up : {v q′ z : ℕ} → Longer B claim L q′ z v → (v ≡ unreached) ⊎ Claimed B claim q a v z (suc n) q′
       up (add-shift {q₁} {t} z k e h) = ⊎-elim (λ i. inl (plus-far-left _ _ (omega arith))) (λ c. inr (shifting z c e h)) (l q₁ t k .attained)
       up (add-goto {q₁} X b z k g h) = ⊎-elim (λ i. inl (plus-far-left _ _ (omega arith))) (λ c. inr (crossing X z c g h)) (l q₁ b k .attained)
 
-  -- .. where costs above the bound may be left out
+  -- where costs above the bound may be left out
   pub within-cut : {q a n bound : ℕ} {L : ℕ → ℕ → ℕ} → LayerWithin B claim bound q a n L → LayerWithin B claim bound q a n (cutAt bound L)
   within-cut {q} {a} {n} {bound} {L} l q′ z h = go (decLt bound (L q′ z))
     where
-      go : Dec (bound < L q′ z) → LeastWithin bound (λ v. Claimed B claim q a v z n q′) (cut bound (L q′ z))
+      go : Dec (bound < L q′ z) → LeastWhere (λ x. x ≤ bound) (λ v. Claimed B claim q a v z n q′) (cut bound (L q′ z))
       go (yes k) = rw (cut-beyond bound (L q′ z) k) (record { below = λ x c i. absurd (omega (arith, l q′ z h .below x c i)); attained = inl refl })
       go (no k) = rw (cut-within bound (L q′ z) (omega arith)) (l q′ z h)
 
-  -- and without a bound
-  pub layer-within : {q a n : ℕ} {L : ℕ → ℕ → ℕ} (bound : ℕ) → Layer B claim q a n L → LayerWithin B claim bound q a n L
-  layer-within bound l q′ z h = record { below = λ x c i. l q′ z h .below x c; attained = l q′ z h .attained }
-
-  pub layer-longer : {q a n q′ z d : ℕ} {L : ℕ → ℕ → ℕ} → Layer B claim q a n L → Least (Longer B claim L q′ z) d → Least (λ v. Claimed B claim q a v z (suc n) q′) d
-  layer-longer l m = let w = within-longer (layer-within unreached l) m in record { below = λ x c. w .below x c (claimed-bounded c); attained = w .attained }
+  -- a whole layer is one as far as anything says
+  pub layer-where : {q a n : ℕ} {L : ℕ → ℕ → ℕ} (C : ℕ → ℕ → ℕ → Type 0) → Layer B claim q a n L → LayerWhere B claim C q a n L
+  layer-where C l q′ z h = record { below = λ x c i. l q′ z h .below x c; attained = l q′ z h .attained }
 
   -- a cut at long leaves out nothing
-  pub longer-whole : {L : ℕ → ℕ → ℕ} {q z v : ℕ} → Least (Longer B claim (cutAt long L) q z) v → Least (Longer B claim L q z) v
-  longer-whole {L} m = record { below = λ x l. m .below x (into l); attained = ⊎-elim inl (λ l. inr (out l)) (m .attained) }
+  pub longer-whole : {C : ℕ → Type 0} {L : ℕ → ℕ → ℕ} {q z v : ℕ} → LeastWhere C (Longer B claim (cutAt long L) q z) v → LeastWhere C (Longer B claim L q z) v
+  longer-whole {L} m = record { below = λ x l i. m .below x (into l) i; attained = ⊎-elim inl (λ l. inr (out l)) (m .attained) }
     where
       into : {q z x : ℕ} → Longer B claim L q z x → Longer B claim (cutAt long L) q z x
       into (add-shift {q₁} {t} z k e h) = subst (Longer B claim (cutAt long L) _ z) (plus-cut (L q₁ t) 1) (add-shift z k e h)

@@ -15,19 +15,19 @@ use Rattle.crossings.proofs.production.longest.Reads as longest-reads
 use Rattle.crossings.proofs.reduction.most.Reads as most-reads
 
 abbrev Inv-loop : tie.InvT-loop
-Inv-loop cells d table₀ q len t n₀ a₀ table n a = (a ≤ t) × Pass d cells (Each (λ j u. ClosedAt (tablesOf cells) q j (claimIn d u)) a) n table₀ table
+Inv-loop cells d positions table₀ q len t n₀ a₀ table n a = (a ≤ t) × Pass d cells (Each (λ j u. ClosedAt (tablesOf cells) q j (claimIn d u)) a) n table₀ table
 
 abbrev μ-loop : tie.MeasureT-loop
-μ-loop cells d table₀ q len t n₀ a₀ table n a = t - a
+μ-loop cells d positions table₀ q len t n₀ a₀ table n a = t - a
 
 longest-requires : tie.Need-longest-requires Inv-loop μ-loop
 longest-requires c κs = search needs
 
 loop-holds : tie.Need-loop-holds Inv-loop μ-loop
-loop-holds c = (omega arith, pass-none (c .before .before .before .pre .1 .1) (λ j h. absurd (omega arith)))
+loop-holds c = (omega arith, pass-none (c .before .before .before .pre .1 .1 .1) (λ j h. absurd (omega arith)))
 
 cross-from-requires : tie.Need-cross-from-requires Inv-loop μ-loop
-cross-from-requires c κs = (c .before .before .before .before .before .before .pre .0, ((c .before .before .before .before .before .before .pre .1 .0, c .before .loop-test .taken), (c .before .before .loop .inv .1 .sound, c .before .before .before .longest .ensures)))
+cross-from-requires c κs = (c .before .before .before .before .before .before .pre .0, ((c .before .before .before .before .before .before .pre .1 .0, c .before .loop-test .taken), (c .before .before .before .before .before .before .pre .1 .1 .0, (c .before .before .loop .inv .1 .sound, c .before .before .before .longest .ensures))))
 
 most-requires : tie.Need-most-requires Inv-loop μ-loop
 most-requires c κs = search needs

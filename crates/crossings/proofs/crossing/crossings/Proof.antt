@@ -17,10 +17,10 @@ use Rattle.crossings.proofs.crossing.clear.Reads as clear-reads
 use Rattle.crossings.proofs.crossing.pass.Reads as pass-reads
 
 abbrev Inv-loop : tie.InvT-loop
-Inv-loop cells d table₀ t n s lowered₀ table lowered = Sound d cells table × Beyond (room d) table₀ table × (lowered ≡ 0 → Closed (tablesOf cells) (claimIn d table))
+Inv-loop cells d table₀ t n s positions lowered₀ table lowered = Sound d cells table × Beyond (room d) table₀ table × (lowered ≡ 0 → Closed (tablesOf cells) (claimIn d table))
 
 abbrev μ-loop : tie.MeasureT-loop
-μ-loop cells d table₀ t n s lowered₀ table lowered = total table + min lowered 1
+μ-loop cells d table₀ t n s positions lowered₀ table lowered = total table + min lowered 1
 
 mul-clear : tie.Need-mul-clear Inv-loop μ-loop
 mul-clear c = omega (arith, room-small (c .before .before .before .args .d) (c .before .before .before .pre .0 .small))
@@ -34,23 +34,26 @@ mul-clear-3 c = omega (arith, room-small (c .before .before .before .args .d) (c
 clear-requires : tie.Need-clear-requires Inv-loop μ-loop
 clear-requires c κs = c .before .before .before .pre .1
 
+mark-all-requires : tie.Need-mark-all-requires Inv-loop μ-loop
+mark-all-requires c κs = c .before .before .before .before .before .before .before .pre .0
+
 loop-holds : tie.Need-loop-holds Inv-loop μ-loop
-loop-holds c = (sound-filled (c .before .before .before .before .before .before .pre .0) (c .before .before .before .before .before .before .pre .1) (c .before .before .clear .ensures), beyond-none, λ e. absurd (omega (arith, e)))
+loop-holds c = (sound-filled (c .before .before .before .before .before .before .before .before .pre .0) (c .before .before .before .before .before .before .before .before .pre .1) (c .before .before .before .before .clear .ensures), beyond-none, λ e. absurd (omega (arith, e)))
 
 pass-requires : tie.Need-pass-requires Inv-loop μ-loop
-pass-requires c κs = (c .before .before .before .before .before .before .before .before .before .pre .0, c .before .before .loop .inv .0)
+pass-requires c κs = (c .before .before .before .before .before .before .before .before .before .before .before .before .pre .0, (c .before .before .before .before .mark-all .ensures, c .before .before .before .loop .inv .0))
 
 loop-less : tie.Need-loop-less Inv-loop μ-loop
-loop-less c = omega (arith, c .before .before .pass .ensures .lowered .sum, c .before .before .before .before .loop-test .taken)
+loop-less c = omega (arith, c .before .before .pass .ensures .lowered .sum, c .before .before .before .before .before .loop-test .taken)
 
 loop-again : tie.Need-loop-again Inv-loop μ-loop
-loop-again c = (c .before .before .pass .ensures .sound, beyond-join (c .before .before .before .before .before .loop .inv .1) (c .before .before .pass .ensures .lowered .beyond), λ e. closed-all (c .before .before .before .before .before .before .before .before .before .before .before .before .pre .0) _ (c .before .before .pass .ensures .done e))
+loop-again c = (c .before .before .pass .ensures .sound, beyond-join (c .before .before .before .before .before .before .loop .inv .1) (c .before .before .pass .ensures .lowered .beyond), λ e. closed-all (c .before .before .before .before .before .before .before .before .before .before .before .before .before .before .before .pre .0) _ (c .before .before .pass .ensures .done e))
 
 same-length : tie.Need-same-length Inv-loop μ-loop
-same-length c = c .before .loop .inv .1 .size ∙ c .before .before .before .before .clear .ensures .beyond .size
+same-length c = c .before .loop .inv .1 .size ∙ c .before .before .before .before .before .before .clear .ensures .beyond .size
 
 returns : tie.Need-returns Inv-loop μ-loop
-returns c = (table-exact (c .before .before .before .before .before .before .before .before .pre .0) (c .before .loop .inv .0) (c .before .loop .inv .2 (c .loop-test .left)), beyond-join (c .before .before .before .before .clear .ensures .beyond) (c .before .loop .inv .1))
+returns c = (table-exact (c .before .before .before .before .before .before .before .before .before .before .pre .0) (c .before .loop .inv .0) (c .before .loop .inv .2 (c .loop-test .left)), beyond-join (c .before .before .before .before .before .before .clear .ensures .beyond) (c .before .loop .inv .1))
 
 pub crossings-spec : {M : Type 1} → statement M
 crossings-spec =
@@ -62,6 +65,7 @@ crossings-spec =
     mul-clear-2
     mul-clear-3
     clear-requires
+    mark-all-requires
     loop-holds
     pass-requires
     loop-less

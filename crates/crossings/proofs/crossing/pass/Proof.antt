@@ -14,16 +14,16 @@ use Rattle.crossings.proofs.crossing.cross_state.Reads as cross-state-r
 use Rattle.crossings.proofs.reduction.most.Reads as most-reads
 
 abbrev Inv-loop : tie.InvT-loop
-Inv-loop cells d table₀ s n₀ q₀ table n q = (q ≤ s) × Pass d cells (Each (λ i. Each (λ j u. ClosedAt (tablesOf cells) i j (claimIn d u)) (d .t)) q) n table₀ table
+Inv-loop cells d positions table₀ s n₀ q₀ table n q = (q ≤ s) × Pass d cells (Each (λ i. Each (λ j u. ClosedAt (tablesOf cells) i j (claimIn d u)) (d .t)) q) n table₀ table
 
 abbrev μ-loop : tie.MeasureT-loop
-μ-loop cells d table₀ s n₀ q₀ table n q = s - q
+μ-loop cells d positions table₀ s n₀ q₀ table n q = s - q
 
 loop-holds : tie.Need-loop-holds Inv-loop μ-loop
-loop-holds c = (omega arith, pass-none (c .before .before .pre .1) (λ j h. absurd (omega arith)))
+loop-holds c = (omega arith, pass-none (c .before .before .pre .1 .1) (λ j h. absurd (omega arith)))
 
 cross-state-requires : tie.Need-cross-state-requires Inv-loop μ-loop
-cross-state-requires c κs = (c .before .before .before .before .before .pre .0, (c .before .loop-test .taken, c .before .before .loop .inv .1 .sound))
+cross-state-requires c κs = (c .before .before .before .before .before .pre .0, (c .before .loop-test .taken, (c .before .before .before .before .before .pre .1 .0, c .before .before .loop .inv .1 .sound)))
 
 most-requires : tie.Need-most-requires Inv-loop μ-loop
 most-requires c κs = search needs

@@ -19,10 +19,10 @@ abbrev μ-loop : tie.MeasureT-loop
 μ-loop cells d q n r₀ p₀ r p = n - p
 
 loop-holds : tie.Need-loop-holds Inv-loop μ-loop
-loop-holds c = (omega arith, record { bound = λ p g h e. absurd (omega arith) })
+loop-holds c = (omega arith, record { bound = λ p g h e. absurd (omega arith); most = omega arith })
 
 longer-requires : tie.Need-longer-requires Inv-loop μ-loop
-longer-requires c κs = (c .before .before .before .pre .0, (c .before .before .before .pre .1, c .loop-test .taken))
+longer-requires c κs = (c .before .before .before .pre .0, (c .before .before .before .pre .1, c .loop-test .taken, c .before .loop .inv .1 .most))
 
 add-p : tie.Need-add-p Inv-loop μ-loop
 add-p c = search needs

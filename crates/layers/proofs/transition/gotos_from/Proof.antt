@@ -14,10 +14,10 @@ use Rattle.layers.proofs.transition.gotos_from.Lts as lts
 use Rattle.layers.proofs.transition.goto_from.Reads as goto-from-reads
 
 abbrev Inv-loop : tie.InvT-loop
-Inv-loop cells d table q a v values₀ flags₀ n x₀ values flags x = (x ≤ n) × Sized values flags × Step (Upto (ByGoto d (tablesOf cells) (claimIn d table) q a v) x) (valueIn values₀ flags₀) (valueIn values flags)
+Inv-loop cells d table wanted q a v values₀ flags₀ n x₀ values flags x = (x ≤ n) × Sized values flags × Step (Upto (ByGoto d wanted (tablesOf cells) (claimIn d table) q a v) x) (valueIn values₀ flags₀) (valueIn values flags)
 
 abbrev μ-loop : tie.MeasureT-loop
-μ-loop cells d table q a v values₀ flags₀ n x₀ values flags x = n - x
+μ-loop cells d table wanted q a v values₀ flags₀ n x₀ values flags x = n - x
 
 loop-holds : tie.Need-loop-holds Inv-loop μ-loop
 loop-holds c = (omega arith, c .before .before .pre .1 .1, step-zero)

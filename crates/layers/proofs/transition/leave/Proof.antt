@@ -16,7 +16,7 @@ use Rattle.layers.proofs.transition.opens.Reads as opens-reads
 use Rattle.layers.proofs.transition.shift_from.Reads as shift-from-reads
 
 returns : tie.Need-returns
-returns c = (c .before .before .before .pre .1 .1 .1, rw (cut-beyond _ _ (c .if1 .taken)) (step-far (c .before .before .before .args .d) (tablesOf (c .before .before .before .args .cells .now)) (claimIn (c .before .before .before .args .d) (c .before .before .before .args .table .now)) {q₁ = c .before .before .before .args .q} {b = c .before .before .before .args .a} (omega arith)))
+returns c = (c .before .before .before .pre .1 .1 .1, rw (cut-beyond _ _ (c .if1 .taken)) (step-far (c .before .before .before .args .d) (c .before .before .before .args .wanted .now) (tablesOf (c .before .before .before .args .cells .now)) (claimIn (c .before .before .before .args .d) (c .before .before .before .args .table .now)) {q₁ = c .before .before .before .args .q} {b = c .before .before .before .args .a} (omega arith)))
 
 opens-requires : tie.Need-opens-requires
 opens-requires c κs = search needs

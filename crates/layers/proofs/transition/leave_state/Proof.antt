@@ -19,16 +19,16 @@ use Rattle.layers.proofs.transition.leave_state.Lts as lts
 use Rattle.layers.proofs.transition.leave.Reads as leave-reads
 
 abbrev Inv-loop : tie.InvT-loop
-Inv-loop cells d table bound from on q values₀ flags₀ t row a₀ values flags a = (a ≤ t) × Sized values flags × Step (Upto (λ b. Leaves d (tablesOf cells) (claimIn d table) q b (cut bound (valueIn from on q b))) a) (valueIn values₀ flags₀) (valueIn values flags)
+Inv-loop cells d table bound wanted from on q values₀ flags₀ t row a₀ values flags a = (a ≤ t) × Sized values flags × Step (Upto (λ b. Leaves d wanted (tablesOf cells) (claimIn d table) q b (cut bound (valueIn from on q b))) a) (valueIn values₀ flags₀) (valueIn values flags)
 
 abbrev μ-loop : tie.MeasureT-loop
-μ-loop cells d table bound from on q values₀ flags₀ t row a₀ values flags a = t - a
+μ-loop cells d table bound wanted from on q values₀ flags₀ t row a₀ values flags a = t - a
 
 element-copy-out-if1 : tie.Need-element-copy-out-if1 Inv-loop μ-loop
 element-copy-out-if1 c = search needs
 
 returns : tie.Need-returns Inv-loop μ-loop
-returns c = (c .before .before .before .before .pre .1 .1 .1, step-off (c .before .before .before .before .args .d) (tablesOf (c .before .before .before .before .args .cells .now)) (claimIn (c .before .before .before .before .args .d) (c .before .before .before .before .args .table .now)) {q₁ = c .before .before .before .before .args .q} (cutAt (c .before .before .before .before .args .bound) (valueIn (c .before .before .before .before .args .from .now) (c .before .before .before .before .args .on .now))) (λ b. rw (value-off (c .before .before .before .before .args .from .now) (c .before .before .before .before .args .on .now) (c .before .before .before .before .args .q) b (c .if1 .taken)) (cut-unreached (c .before .before .before .before .args .bound))))
+returns c = (c .before .before .before .before .pre .1 .1 .1, step-off (c .before .before .before .before .args .d) (c .before .before .before .before .args .wanted .now) (tablesOf (c .before .before .before .before .args .cells .now)) (claimIn (c .before .before .before .before .args .d) (c .before .before .before .before .args .table .now)) {q₁ = c .before .before .before .before .args .q} (cutAt (c .before .before .before .before .args .bound) (valueIn (c .before .before .before .before .args .from .now) (c .before .before .before .before .args .on .now))) (λ b. rw (value-off (c .before .before .before .before .args .from .now) (c .before .before .before .before .args .on .now) (c .before .before .before .before .args .q) b (c .if1 .taken)) (cut-unreached (c .before .before .before .before .args .bound))))
 
 mul-row : tie.Need-mul-row Inv-loop μ-loop
 mul-row c = search needs

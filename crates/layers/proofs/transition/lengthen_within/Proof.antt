@@ -18,10 +18,10 @@ use Rattle.layers.proofs.transition.lengthen_within.Lts as lts
 use Rattle.layers.proofs.transition.leave_state.Reads as leave-state-reads
 
 abbrev Inv-loop : tie.InvT-loop
-Inv-loop cells d table bound from on values₀ flags₀ s q₀ values flags q = (q ≤ s) × Sized values flags × Step (Upto (LeavesState d (tablesOf cells) (claimIn d table) (cutAt bound (valueIn from on))) q) (valueIn values₀ (replicate 128 0)) (valueIn values flags)
+Inv-loop cells d table bound wanted from on values₀ flags₀ s q₀ values flags q = (q ≤ s) × Sized values flags × Step (Upto (LeavesState d wanted (tablesOf cells) (claimIn d table) (cutAt bound (valueIn from on))) q) (valueIn values₀ (replicate 128 0)) (valueIn values flags)
 
 abbrev μ-loop : tie.MeasureT-loop
-μ-loop cells d table bound from on values₀ flags₀ s q₀ values flags q = s - q
+μ-loop cells d table bound wanted from on values₀ flags₀ s q₀ values flags q = s - q
 
 loop-holds : tie.Need-loop-holds Inv-loop μ-loop
 loop-holds c = (omega arith, record { size = c .before .before .before .pre .1 .1 .1; count = length-replicate {A = ℕ} 128 0 }, step-zero)

@@ -1,0 +1,55 @@
+-- `crossings::position::actions_pass` meets its contract. Assumes nothing.
+use borrow.Author.Needs.{needs}
+use native.Mathlib.Omega.{arith}
+use mathlib.Core.Path.{sym}
+use Prim.Native.Nat.{ℕ, _-_, _≤_, _<_}
+use mathlib.Core.Bool.{false≢true}
+use Rattle.book.specs.Tables.{tablesOf}
+use Rattle.crossings.specs.Position.{BarredAction}
+use Rattle.crossings.specs.PositionLaws.{each-more}
+use Rattle.crossings.proofs.position.actions_pass.Statement.{statement}
+use Rattle.crossings.proofs.position.actions_pass.Tie as tie
+use Rattle.crossings.proofs.position.actions_pass.Reads as reads
+use Rattle.crossings.proofs.position.actions_pass.Lts as lts
+use Rattle.crossings.proofs.position.action_passes.Reads as action-passes-reads
+
+abbrev Inv-loop : tie.InvT-loop
+Inv-loop cells d positions n q t z₀ z = (z ≤ t) × ((j : ℕ) → j < z → BarredAction (tablesOf cells) positions n q j)
+
+abbrev μ-loop : tie.MeasureT-loop
+μ-loop cells d positions n q t z₀ z = t - z
+
+loop-holds : tie.Need-loop-holds Inv-loop μ-loop
+loop-holds c = (omega arith, λ j h. absurd (omega arith))
+
+action-passes-requires : tie.Need-action-passes-requires Inv-loop μ-loop
+action-passes-requires c κs = (c .before .before .before .pre .0, (c .before .before .before .pre .1 .0, c .before .before .before .pre .1 .1, c .loop-test .taken, c .before .before .before .pre .1 .2))
+
+returns : tie.Need-returns Inv-loop μ-loop
+returns c = λ e. absurd (false≢true (sym e))
+
+add-z : tie.Need-add-z Inv-loop μ-loop
+add-z c = search needs
+
+loop-less : tie.Need-loop-less Inv-loop μ-loop
+loop-less c = search needs
+
+loop-again : tie.Need-loop-again Inv-loop μ-loop
+loop-again c = (omega arith, each-more (c .before .before .before .loop .inv .1) (c .before .action-passes .ensures (c .if1 .left)))
+
+returns-2 : tie.Need-returns-2 Inv-loop μ-loop
+returns-2 c = λ e j h. c .before .loop .inv .1 j (omega (arith, c .loop-test .left))
+
+pub actions-pass-spec : {M : Type 1} → statement M
+actions-pass-spec =
+    tie.close
+    (tie.spec
+    Inv-loop
+    μ-loop
+    loop-holds
+    action-passes-requires
+    returns
+    add-z
+    loop-less
+    loop-again
+    returns-2)

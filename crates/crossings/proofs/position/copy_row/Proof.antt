@@ -1,0 +1,61 @@
+-- `crossings::position::copy_row` meets its contract. Assumes nothing.
+use borrow.Author.Needs.{needs}
+use native.Mathlib.Omega.{arith}
+use mathlib.Core.Path.{refl}
+use native.Mathlib.Nat.{le-antisymm}
+use Prim.Native.Nat.{_-_, _≤_}
+use Rattle.crossings.specs.Position.{Copied}
+use Rattle.crossings.specs.PositionLaws.{copied-more}
+use Rattle.crossings.proofs.position.copy_row.Statement.{statement}
+use Rattle.crossings.proofs.position.copy_row.Tie as tie
+use Rattle.crossings.proofs.position.copy_row.Reads as reads
+use Rattle.crossings.proofs.position.copy_row.Lts as lts
+
+abbrev Inv-loop : tie.InvT-loop
+Inv-loop positions n wanted₀ row q₀ wanted q = (q ≤ 128) × Copied positions n q wanted
+
+abbrev μ-loop : tie.MeasureT-loop
+μ-loop positions n wanted₀ row q₀ wanted q = 128 - q
+
+mul-row : tie.Need-mul-row Inv-loop μ-loop
+mul-row c = search needs
+
+loop-holds : tie.Need-loop-holds Inv-loop μ-loop
+loop-holds c = (omega arith, record { size = c .pre .1; same = λ q h. absurd (omega arith) })
+
+add-wanted : tie.Need-add-wanted Inv-loop μ-loop
+add-wanted c = search needs
+
+element-copy-out-wanted : tie.Need-element-copy-out-wanted Inv-loop μ-loop
+element-copy-out-wanted c = search needs
+
+element-write-wanted : tie.Need-element-write-wanted Inv-loop μ-loop
+element-write-wanted c = omega (arith, c .before .before .loop .inv .1 .size)
+
+add-q : tie.Need-add-q Inv-loop μ-loop
+add-q c = search needs
+
+loop-less : tie.Need-loop-less Inv-loop μ-loop
+loop-less c = search needs
+
+loop-again : tie.Need-loop-again Inv-loop μ-loop
+loop-again c = (omega arith, copied-more (c .before .loop-test .taken) refl (c .before .before .loop .inv .1))
+
+returns : tie.Need-returns Inv-loop μ-loop
+returns c = rw (le-antisymm (c .before .loop .inv .0) (c .loop-test .left)) at (c .before .loop .inv .1)
+
+pub copy-row-spec : {M : Type 1} → statement M
+copy-row-spec =
+    tie.close
+    (tie.spec
+    Inv-loop
+    μ-loop
+    mul-row
+    loop-holds
+    add-wanted
+    element-copy-out-wanted
+    element-write-wanted
+    add-q
+    loop-less
+    loop-again
+    returns)

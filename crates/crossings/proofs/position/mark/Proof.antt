@@ -1,0 +1,29 @@
+-- `crossings::position::mark` meets its contract. Assumes nothing.
+use native.Mathlib.Omega.{arith}
+use Rattle.crossings.specs.PositionLaws.{positions-kept, positions-set}
+use borrow.Author.Tests.{not-true}
+use borrow.Author.Needs.{needs}
+use Rattle.crossings.proofs.position.mark.Statement.{statement}
+use Rattle.crossings.proofs.position.mark.Tie as tie
+use Rattle.crossings.proofs.position.mark.Reads as reads
+use Rattle.crossings.proofs.position.mark.Lts as lts
+use Rattle.crossings.proofs.position.passes.Reads as passes-reads
+
+returns : tie.Need-returns
+returns c = positions-kept (c .before .before .args .k) (c .before .before .pre .1 .1) (c .before .before .pre .0 .small .states) (λ h. absurd (omega (arith, h, c .if1 .taken)))
+
+passes-requires : tie.Need-passes-requires
+passes-requires c κs = (c .before .before .before .pre .0, (omega (arith, c .before .before .before .pre .1 .0), c .before .if1 .left, c .before .before .before .pre .1 .1 .size))
+
+returns-2 : tie.Need-returns-2
+returns-2 c = positions-kept (c .before .before .before .before .before .args .k) (c .before .before .before .before .before .pre .1 .1) (c .before .before .before .before .before .pre .0 .small .states) (λ h. c .before .passes .ensures (not-true _ (c .if2 .taken)))
+
+element-write-positions : tie.Need-element-write-positions
+element-write-positions c = search needs
+
+returns-3 : tie.Need-returns-3
+returns-3 c = positions-set (c .before .before .before .before .before .args .k) (c .before .before .before .before .before .pre .1 .1) (c .before .before .before .before .before .pre .0 .small .states) (c .before .before .before .before .before .pre .1 .0)
+
+pub mark-spec : {M : Type 1} → statement M
+mark-spec =
+    tie.close (tie.spec returns passes-requires returns-2 element-write-positions returns-3)

@@ -1,0 +1,43 @@
+-- `crossings::position::mark_all` meets its contract. Assumes nothing.
+use native.Mathlib.Omega.{arith}
+use native.Mathlib.Nat.{le-antisymm}
+use borrow.Author.Needs.{needs}
+use Prim.Native.Nat.{ℕ, _≤_}
+use lib.ListN.{length-replicate}
+use Rattle.book.specs.Tables.{tablesOf}
+use Rattle.crossings.specs.Position.{Positions}
+use Rattle.crossings.specs.PositionLaws.{pred-more}
+use Rattle.crossings.proofs.position.mark_all.Statement.{statement}
+use Rattle.crossings.proofs.position.mark_all.Tie as tie
+use Rattle.crossings.proofs.position.mark_all.Reads as reads
+use Rattle.crossings.proofs.position.mark_all.Lts as lts
+use Rattle.crossings.proofs.position.mark.Reads as mark-reads
+
+abbrev Inv-loop : tie.InvT-loop
+Inv-loop cells d positions₀ k₀ positions k = (k ≤ 4096) × Positions d (tablesOf cells) k positions
+
+abbrev μ-loop : tie.MeasureT-loop
+μ-loop cells d positions₀ k₀ positions k = k
+
+loop-holds : tie.Need-loop-holds Inv-loop μ-loop
+loop-holds c = (omega arith, record { size = length-replicate {A = ℕ} 4096 0; barred = λ n q hn hq l e. absurd (omega (arith, c .before .before .pre .small .states)) })
+
+sub-k : tie.Need-sub-k Inv-loop μ-loop
+sub-k c = search needs
+
+mark-requires : tie.Need-mark-requires Inv-loop μ-loop
+mark-requires c κs = (c .before .before .before .before .before .pre, (omega (arith, c .before .before .loop .inv .0, c .before .loop-test .taken), rw (pred-more (c .before .loop-test .taken)) (c .before .before .loop .inv .1)))
+
+loop-less : tie.Need-loop-less Inv-loop μ-loop
+loop-less c = search needs
+
+loop-again : tie.Need-loop-again Inv-loop μ-loop
+loop-again c = (omega (arith, c .before .before .before .loop .inv .0), c .mark .ensures)
+
+returns : tie.Need-returns Inv-loop μ-loop
+returns c = rw (le-antisymm (c .loop-test .left) (omega arith)) at (c .before .loop .inv .1)
+
+pub mark-all-spec : {M : Type 1} → statement M
+mark-all-spec =
+    tie.close
+    (tie.spec Inv-loop μ-loop loop-holds sub-k mark-requires loop-less loop-again returns)

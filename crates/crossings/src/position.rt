@@ -1,0 +1,152 @@
+// Positions: a flag for each number of transitions and state, 0 if no walk over a whole production stands there then.
+ghost use mathlib.Core.Bool.{false};
+ghost use mathlib.Core.Path.{_≡_};
+ghost use Prim.Native.Nat.{ℕ, _+_, _≤_, _<_};
+ghost use lib.ListN.{length};
+ghost use Rattle.book.specs.Tables.{tablesOf};
+ghost use Rattle.book.specs.TablesLaws.{Holds};
+ghost use Rattle.crossings.specs.Position.{positionIn, BarredAction, BarredGoto, Barred, Positions, Copied};
+use book::Action;
+use book::Sizes;
+use book::action_at;
+use book::goto_at;
+use book::production_length;
+
+// The flag of state q after n + 1 transitions. No production is longer than 32.
+fn marked(positions: &[u8; 4096], n: usize, q: usize) -> bool
+    requires { ⌜ (n ≤ 32) × (q < 128) × (length (now positions) ≡ 4096) ⌝ }
+    ensures { λ r. ⌜ (r ≡ false → positionIn (now (positions .entry)) n q ≡ 0) ⌝ }
+{
+    if n == 32 {
+        return false;
+    }
+    positions[n * 128 + q] != 0
+}
+
+fn action_passes(
+    cells: &[u16],
+    d: Sizes,
+    positions: &[u8; 4096],
+    n: usize,
+    q: usize,
+    z: usize,
+) -> bool
+    requires { ⌜ Holds d (now cells) ⌝ }
+    requires { ⌜ (n < 32) × (q < d .s) × (z < d .t) × (length (now positions) ≡ 4096) ⌝ }
+    ensures { λ r. ⌜ (r ≡ false → BarredAction (tablesOf (now (cells .entry))) (now (positions .entry)) n q z) ⌝ }
+{
+    match action_at(cells, d, q, z) {
+        Action::Shift(g) => marked(positions, n + 1, g as usize),
+        Action::Reduce(p) => production_length(cells, d, p as usize) as usize == n + 1,
+        Action::Error => false,
+        Action::Accept => false,
+    }
+}
+
+fn goto_passes(
+    cells: &[u16],
+    d: Sizes,
+    positions: &[u8; 4096],
+    n: usize,
+    q: usize,
+    x: usize,
+) -> bool
+    requires { ⌜ Holds d (now cells) ⌝ }
+    requires { ⌜ (n < 32) × (q < d .s) × (x < d .n) × (length (now positions) ≡ 4096) ⌝ }
+    ensures { λ r. ⌜ (r ≡ false → BarredGoto (tablesOf (now (cells .entry))) (now (positions .entry)) n q x) ⌝ }
+{
+    let target = goto_at(cells, d, q, x);
+    if target == 0 {
+        return false;
+    }
+    marked(positions, n + 1, (target - 1) as usize)
+}
+
+fn actions_pass(cells: &[u16], d: Sizes, positions: &[u8; 4096], n: usize, q: usize) -> bool
+    requires { ⌜ Holds d (now cells) ⌝ }
+    requires { ⌜ (n < 32) × (q < d .s) × (length (now positions) ≡ 4096) ⌝ }
+    ensures { λ r. ⌜ (r ≡ false → (z : ℕ) → z < d .t → BarredAction (tablesOf (now (cells .entry))) (now (positions .entry)) n q z) ⌝ }
+{
+    let t = d.t;
+    let mut z: usize = 0;
+    while z < t {
+        if action_passes(cells, d, positions, n, q, z) {
+            return true;
+        }
+        z += 1;
+    }
+    false
+}
+
+fn gotos_pass(cells: &[u16], d: Sizes, positions: &[u8; 4096], n: usize, q: usize) -> bool
+    requires { ⌜ Holds d (now cells) ⌝ }
+    requires { ⌜ (n < 32) × (q < d .s) × (length (now positions) ≡ 4096) ⌝ }
+    ensures { λ r. ⌜ (r ≡ false → (x : ℕ) → x < d .n → BarredGoto (tablesOf (now (cells .entry))) (now (positions .entry)) n q x) ⌝ }
+{
+    let m = d.n;
+    let mut x: usize = 0;
+    while x < m {
+        if goto_passes(cells, d, positions, n, q, x) {
+            return true;
+        }
+        x += 1;
+    }
+    false
+}
+
+// Whether a walk over a whole production can stand in q after n + 1 transitions, by the flags after one more.
+fn passes(cells: &[u16], d: Sizes, positions: &[u8; 4096], n: usize, q: usize) -> bool
+    requires { ⌜ Holds d (now cells) ⌝ }
+    requires { ⌜ (n < 32) × (q < d .s) × (length (now positions) ≡ 4096) ⌝ }
+    ensures { λ r. ⌜ (r ≡ false → Barred (tablesOf (now (cells .entry))) (now (positions .entry)) n q) ⌝ }
+{
+    if actions_pass(cells, d, positions, n, q) {
+        return true;
+    }
+    gotos_pass(cells, d, positions, n, q)
+}
+
+// Cell k, when all after it are done.
+fn mark(cells: &[u16], d: Sizes, positions: &mut [u8; 4096], k: usize)
+    requires { ⌜ Holds d (now cells) ⌝ }
+    requires { ⌜ k < 4096 ⌝ }
+    requires { ⌜ Positions d (tablesOf (now cells)) (k + 1) (now positions) ⌝ }
+    ensures { λ _. ⌜ Positions d (tablesOf (now (cells .entry))) k (now (positions .exit)) ⌝ }
+{
+    let n = k / 128;
+    let q = k % 128;
+    let s = d.s;
+    if q >= s {
+        return;
+    }
+    if !passes(cells, d, positions, n, q) {
+        return;
+    }
+    positions[k] = 1;
+}
+
+// Every cell, from the last to the first.
+pub fn mark_all(cells: &[u16], d: Sizes, positions: &mut [u8; 4096])
+    requires { ⌜ Holds d (now cells) ⌝ }
+    ensures { λ _. ⌜ Positions d (tablesOf (now (cells .entry))) 0 (now (positions .exit)) ⌝ }
+{
+    *positions = [0; 4096];
+    let mut k: usize = 4096;
+    while k > 0 {
+        k -= 1;
+        mark(cells, d, positions, k);
+    }
+}
+
+// The flags of all states after n + 1 transitions.
+pub fn copy_row(positions: &[u8; 4096], n: usize, wanted: &mut [u8; 128])
+    requires { ⌜ (n < 32) × (length (now wanted) ≡ 128) ⌝ }
+    ensures { λ _. ⌜ Copied (now (positions .entry)) n 128 (now (wanted .exit)) ⌝ }
+{
+    let row = n * 128;
+    let mut q: usize = 0;
+    while q < 128 {
+        wanted[q] = positions[row + q];
+        q += 1;
+    }
+}
