@@ -30,7 +30,7 @@ fn clear(table: &mut [u16], n: usize)
     }
 }
 
-// What begins in (q, a): the layers up to the longest production, each in the states that a production passes, and the reductions in each.
+// What begins in (q, a): the layers up to the longest production, in the states that one passes, and the reductions in each.
 fn cross_from(
     cells: &[u16],
     d: Sizes,
