@@ -1,0 +1,140 @@
+// The lines of 'Two small books' that are not proved as one table.
+use crate::say;
+use book::Written;
+use finder::Found;
+use judgement::Judgement;
+use machine::Ending;
+use machine::Ran;
+
+fn ending(e: Ending) {
+    match e {
+        Ending::Accepted(_) => say::text(b" accepted"),
+        Ending::Error(_) => say::text(b" error"),
+        Ending::Broken(_) => say::text(b" broken"),
+        Ending::Passed(_) => say::text(b" passed"),
+        Ending::Deep(_) => say::text(b" deep"),
+        Ending::Spinning(_) => say::text(b" spinning"),
+    }
+}
+
+// The empty sentence with lookahead 0.
+fn empty_run(cells: &[u16]) {
+    let mut stack = [0u16; 1024];
+    say::text(b"the empty run is");
+    match machine::run(cells, b"", 0, &mut stack) {
+        Ran::Refused(r) => say::refusal(r),
+        Ran::Ended(e) => ending(e),
+    }
+    say::text(b"\n");
+}
+
+fn pair(cells: &[u16], s: u16, z: u16) {
+    let mut work = [0u16; 32];
+    let mut buffer = [0u8; 1000];
+    say::label(b"pair ", s as usize);
+    say::label(b" ", z as usize);
+    match finder::find(cells, s, z, &mut work, &mut buffer) {
+        Found::Refused(r) => say::refusal(r),
+        Found::Unreached => say::text(b" unreached"),
+        Found::Long => say::text(b" long"),
+        Found::Sentence(n) => say::label(b" has a sentence of length ", n),
+    }
+    say::text(b"\n");
+}
+
+fn spinning() {
+    let mut cells = [0u16; 13];
+    book::read(
+        b"\x01\x01\x01\x02\x02\x00\x00\x00\x01\x03\x05\x02\x00",
+        &mut cells,
+    );
+    empty_run(&cells);
+    pair(&cells, 1, 0);
+}
+
+fn deep() {
+    let mut cells = [0u16; 9];
+    book::read(b"\x01\x01\x01\x01\x01\x00\x00\x03\x01", &mut cells);
+    empty_run(&cells);
+}
+
+fn judged(name: &[u8], cells: &[u16], list: &[u8]) {
+    let mut work = [0u16; 864];
+    let mut stack = [0u16; 1024];
+    say::text(name);
+    match judgement::judge(cells, list, &mut work, &mut stack) {
+        Judgement::Refused(r) => say::refusal(r),
+        Judgement::Wrong(i, _) => say::label(b" wrong, entry ", i),
+        Judgement::Repeat(i) => say::label(b" repeat, entry ", i),
+        Judgement::Uncovered(s) => say::label(b" uncovered, state ", s as usize),
+        Judgement::Complete => say::text(b" complete"),
+    }
+    say::text(b"\n");
+}
+
+// Bracket's list: whole; without its third entry and with count 5.
+pub fn lists(bracket: &[u16]) {
+    judged(
+        b"the list is",
+        bracket,
+        b"\x06\x00\x00\x01\x01\x01\x01\x02\x00\x01\x01\x03\x02\x02\x01\x00\x03\x02\x01\x03\x01",
+    );
+    judged(
+        b"the list without its third entry is",
+        bracket,
+        b"\x05\x00\x00\x01\x01\x01\x01\x01\x03\x02\x02\x01\x00\x03\x02\x01\x03\x01",
+    );
+}
+
+// The map, in the first n work cells.
+fn map_in(cells: &[u16], work: &mut [u16], n: usize) {
+    if work.len() < n {
+        return;
+    }
+    let mut to = [0u16; 256];
+    say::label(b", in ", n);
+    say::text(b" work cells");
+    match finder::map(cells, &mut work[..n], &mut to) {
+        Written::Refused(r) => say::refusal(r),
+        Written::Count(m) => say::label(b" a map of ", m),
+    }
+}
+
+// The map of a book, in as many work cells as are needed for 8 and for 9 nonterminals, and in one fewer.
+fn maps(name: &[u8], cells: &[u16]) {
+    let mut work = [0u16; 34816];
+    say::text(name);
+    map_in(cells, &mut work, 32767);
+    map_in(cells, &mut work, 32768);
+    map_in(cells, &mut work, 34815);
+    map_in(cells, &mut work, 34816);
+    say::text(b"\n");
+}
+
+// A book of 8 terminals and 32 states, in which state 0 shifts terminal 7 to state 31.
+fn eight() {
+    let mut cells = [0u16; 517];
+    cells[0] = 1;
+    cells[1] = 8;
+    cells[2] = 8;
+    cells[3] = 32;
+    cells[12] = 64;
+    maps(b"8 nonterminals", &cells);
+}
+
+fn nine() {
+    let mut cells = [0u16; 549];
+    cells[0] = 1;
+    cells[1] = 8;
+    cells[2] = 9;
+    cells[3] = 32;
+    cells[12] = 64;
+    maps(b"9 nonterminals", &cells);
+}
+
+pub fn books() {
+    spinning();
+    deep();
+    eight();
+    nine();
+}

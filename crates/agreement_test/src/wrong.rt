@@ -1,0 +1,40 @@
+// The comparison can fail: one answer of the library is changed before it is compared. The pair is (1, 1), which Bracket reaches by
+// the sentence `1`.
+use crate::agree;
+use crate::say;
+
+// The number of the pair.
+const PAIR: usize = 9;
+
+// 1 changes the map, 2 the length that `find` answers, 3 its sentence, 4 the set, 5 the set's size.
+pub fn change(
+    what: usize,
+    map: &mut [u16; 256],
+    lengths: &mut [u16; 256],
+    theirs: &mut [u8; 262144],
+    masks: &mut [u32; 128],
+    sizes: &mut [u32; 128],
+) {
+    match what {
+        1 => map[PAIR] = 2,
+        2 => lengths[PAIR] = 1002,
+        3 => theirs[PAIR * 1024] = 2,
+        4 => masks[1] = 13,
+        5 => sizes[1] = 3,
+        _ => {}
+    }
+}
+
+fn changed(name: &[u8], cells: &[u16], what: usize) {
+    say::text(name);
+    agree::book(cells, what);
+}
+
+pub fn bracket(cells: &[u16]) {
+    changed(b"nothing is wrong:", cells, 0);
+    changed(b"a cell of the map is wrong:", cells, 1);
+    changed(b"a pair is called unreached:", cells, 2);
+    changed(b"a sentence is wrong:", cells, 3);
+    changed(b"a set is wrong:", cells, 4);
+    changed(b"a size is wrong:", cells, 5);
+}
