@@ -2,7 +2,6 @@
 ghost use Prim.Native.Nat.{_≤_};
 use crate::answers;
 use crate::pops;
-use crate::say;
 use crate::sentences;
 use crate::tables;
 use crate::verdicts;
@@ -27,7 +26,7 @@ fn second(
     requires { ⌜ (1 ≤ t) × (t ≤ 8) ⌝ }
 {
     if !pops::distances(tables, t, dist) {
-        say::text(b" unsettled");
+        trial::text(b" unsettled");
     }
     sentences::try_all(tables, t, least, words)
 }
@@ -82,10 +81,10 @@ fn counts(all: &[u8; 256]) -> Tally {
 }
 
 pub fn tell(r: Tally) {
-    say::label(b" ", r.compared);
-    say::label(b" pairs compared, ", r.other);
-    say::label(b" differences, ", r.open);
-    say::text(b" undecided\n");
+    trial::label(b" ", r.compared);
+    trial::label(b" pairs compared, ", r.other);
+    trial::label(b" differences, ", r.open);
+    trial::text(b" undecided\n");
 }
 
 fn of_sizes(cells: &[u16], t: usize, n: usize, s: usize, p: usize, what: usize) -> Tally
@@ -96,10 +95,10 @@ fn of_sizes(cells: &[u16], t: usize, n: usize, s: usize, p: usize, what: usize) 
     let mut words = [0u8; 262144];
     let mut dist = [pops::UNREACHED; 256];
     let tried = second(&tables, t, &mut least, &mut words, &mut dist);
-    say::label(b": reached ", verdicts::below(&dist, 1002));
-    say::label(b", by sentences of fewer than ", tried);
-    say::label(b" symbols ", verdicts::below(&least, 1001));
-    say::text(b":");
+    trial::label(b": reached ", verdicts::below(&dist, 1002));
+    trial::label(b", by sentences of fewer than ", tried);
+    trial::label(b" symbols ", verdicts::below(&least, 1001));
+    trial::text(b":");
     let all = compare(cells, &tables, s, t, tried, &least, &words, &dist, what);
     let r = counts(&all);
     tell(r);
@@ -107,7 +106,7 @@ fn of_sizes(cells: &[u16], t: usize, n: usize, s: usize, p: usize, what: usize) 
 }
 
 fn too_large() -> Tally {
-    say::text(b" too large\n");
+    trial::text(b" too large\n");
     Tally {
         compared: 0,
         other: 0,
@@ -121,10 +120,10 @@ pub fn book(cells: &[u16], what: usize) -> Tally {
     let n = tables::wide(tables::number_at(cells, 2));
     let s = tables::wide(tables::number_at(cells, 3));
     let p = tables::wide(tables::number_at(cells, 4));
-    say::label(b" terminals ", t);
-    say::label(b" nonterminals ", n);
-    say::label(b" states ", s);
-    say::label(b" productions ", p);
+    trial::label(b" terminals ", t);
+    trial::label(b" nonterminals ", n);
+    trial::label(b" states ", s);
+    trial::label(b" productions ", p);
     if t == 0 {
         return too_large();
     }

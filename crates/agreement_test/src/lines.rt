@@ -1,5 +1,4 @@
 // The lines of 'Two small books' that are not proved as one table.
-use crate::say;
 use book::Written;
 use finder::Found;
 use judgement::Judgement;
@@ -8,38 +7,38 @@ use machine::Ran;
 
 fn ending(e: Ending) {
     match e {
-        Ending::Accepted(_) => say::text(b" accepted"),
-        Ending::Error(_) => say::text(b" error"),
-        Ending::Broken(_) => say::text(b" broken"),
-        Ending::Passed(_) => say::text(b" passed"),
-        Ending::Deep(_) => say::text(b" deep"),
-        Ending::Spinning(_) => say::text(b" spinning"),
+        Ending::Accepted(_) => trial::text(b" accepted"),
+        Ending::Error(_) => trial::text(b" error"),
+        Ending::Broken(_) => trial::text(b" broken"),
+        Ending::Passed(_) => trial::text(b" passed"),
+        Ending::Deep(_) => trial::text(b" deep"),
+        Ending::Spinning(_) => trial::text(b" spinning"),
     }
 }
 
 // The empty sentence with lookahead 0.
 fn empty_run(cells: &[u16]) {
     let mut stack = [0u16; 1024];
-    say::text(b"the empty run is");
+    trial::text(b"the empty run is");
     match machine::run(cells, b"", 0, &mut stack) {
-        Ran::Refused(r) => say::refusal(r),
+        Ran::Refused(r) => trial::refusal(r),
         Ran::Ended(e) => ending(e),
     }
-    say::text(b"\n");
+    trial::text(b"\n");
 }
 
 fn pair(cells: &[u16], s: u16, z: u16) {
     let mut work = [0u16; 32];
     let mut buffer = [0u8; 1000];
-    say::label(b"pair ", s as usize);
-    say::label(b" ", z as usize);
+    trial::label(b"pair ", s as usize);
+    trial::label(b" ", z as usize);
     match finder::find(cells, s, z, &mut work, &mut buffer) {
-        Found::Refused(r) => say::refusal(r),
-        Found::Unreached => say::text(b" unreached"),
-        Found::Long => say::text(b" long"),
-        Found::Sentence(n) => say::label(b" has a sentence of length ", n),
+        Found::Refused(r) => trial::refusal(r),
+        Found::Unreached => trial::text(b" unreached"),
+        Found::Long => trial::text(b" long"),
+        Found::Sentence(n) => trial::label(b" has a sentence of length ", n),
     }
-    say::text(b"\n");
+    trial::text(b"\n");
 }
 
 fn spinning() {
@@ -61,15 +60,15 @@ fn deep() {
 fn judged(name: &[u8], cells: &[u16], list: &[u8]) {
     let mut work = [0u16; 864];
     let mut stack = [0u16; 1024];
-    say::text(name);
+    trial::text(name);
     match judgement::judge(cells, list, &mut work, &mut stack) {
-        Judgement::Refused(r) => say::refusal(r),
-        Judgement::Wrong(i, _) => say::label(b" wrong, entry ", i),
-        Judgement::Repeat(i) => say::label(b" repeat, entry ", i),
-        Judgement::Uncovered(s) => say::label(b" uncovered, state ", s as usize),
-        Judgement::Complete => say::text(b" complete"),
+        Judgement::Refused(r) => trial::refusal(r),
+        Judgement::Wrong(i, _) => trial::label(b" wrong, entry ", i),
+        Judgement::Repeat(i) => trial::label(b" repeat, entry ", i),
+        Judgement::Uncovered(s) => trial::label(b" uncovered, state ", s as usize),
+        Judgement::Complete => trial::text(b" complete"),
     }
-    say::text(b"\n");
+    trial::text(b"\n");
 }
 
 // Bracket's list: whole; without its third entry and with count 5.
@@ -92,23 +91,23 @@ fn map_in(cells: &[u16], work: &mut [u16], n: usize) {
         return;
     }
     let mut to = [0u16; 256];
-    say::label(b", in ", n);
-    say::text(b" work cells");
+    trial::label(b", in ", n);
+    trial::text(b" work cells");
     match finder::map(cells, &mut work[..n], &mut to) {
-        Written::Refused(r) => say::refusal(r),
-        Written::Count(m) => say::label(b" a map of ", m),
+        Written::Refused(r) => trial::refusal(r),
+        Written::Count(m) => trial::label(b" a map of ", m),
     }
 }
 
 // The map of a book, in as many work cells as are needed for 8 and for 9 nonterminals, and in one fewer.
 fn maps(name: &[u8], cells: &[u16]) {
     let mut work = [0u16; 34816];
-    say::text(name);
+    trial::text(name);
     map_in(cells, &mut work, 32767);
     map_in(cells, &mut work, 32768);
     map_in(cells, &mut work, 34815);
     map_in(cells, &mut work, 34816);
-    say::text(b"\n");
+    trial::text(b"\n");
 }
 
 // A book of 8 terminals and 32 states, in which state 0 shifts terminal 7 to state 31.

@@ -14,14 +14,11 @@ mod answers;
 mod follow;
 mod lines;
 mod pops;
-mod say;
 mod sentences;
 mod tables;
 mod verdicts;
 mod wrong;
 
-ghost use Prim.Native.Nat.{_<_};
-ghost use lib.ListN.{length};
 use agree::Tally;
 use book::Written;
 
@@ -52,8 +49,8 @@ fn sum(a: Tally, b: Tally) -> Tally {
 fn compared(bytes: &[u8], cells: &mut [u16]) -> Tally {
     match book::read(bytes, cells) {
         Written::Refused(r) => {
-            say::refusal(r);
-            say::text(b"\n");
+            trial::refusal(r);
+            trial::text(b"\n");
             none()
         }
         Written::Count(n) => {
@@ -65,43 +62,15 @@ fn compared(bytes: &[u8], cells: &mut [u16]) -> Tally {
     }
 }
 
-// Where the bytes of the book end whose length stands in the two bytes at a place.
-fn end_of(bytes: &[u8], at: usize) -> usize
-    requires { ⌜ at < length (now bytes) ⌝ }
-    ensures { λ r. ⌜ at < r ⌝ }
-{
-    if bytes.len() - at < 2 {
-        return bytes.len();
-    }
-    let start = at + 2;
-    let len = bytes[at] as usize + 256 * (bytes[at + 1] as usize);
-    if bytes.len() - start < len {
-        return bytes.len();
-    }
-    start + len
-}
-
-// The book after the two bytes at a place, up to its end.
-fn part(bytes: &[u8], at: usize, end: usize, cells: &mut [u16]) -> Tally
-    requires { ⌜ at < end ⌝ }
-{
-    if end > bytes.len() {
-        return none();
-    }
-    if end - at < 2 {
-        return none();
-    }
-    let start = at + 2;
-    compared(&bytes[start..end], cells)
-}
-
 fn books(bytes: &[u8], cells: &mut [u16]) -> Tally {
     let mut total = none();
     let mut at: usize = 0;
     while at < bytes.len() {
-        let end = end_of(bytes, at);
-        say::text(b"book:");
-        total = sum(total, part(bytes, at, end, cells));
+        trial::text(b"book:");
+        let part = trial::part_at(bytes, at);
+        let start = part.start;
+        let end = part.end;
+        total = sum(total, compared(&bytes[start..end], cells));
         at = end;
     }
     total
@@ -119,7 +88,7 @@ fn main() {
     let n = io::read_full(0, &mut bytes);
     let mut cells = [0u16; MOST];
     let total = books(&bytes[..n], &mut cells);
-    say::text(b"all books:");
+    trial::text(b"all books:");
     agree::tell(total);
     lines::books();
     let mut few = [0u16; 39];

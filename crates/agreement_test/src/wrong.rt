@@ -1,7 +1,6 @@
 // The comparison can fail: one answer of the library is changed before it is compared. The pair is (1, 1), which Bracket reaches by
 // the sentence `1`.
 use crate::agree;
-use crate::say;
 
 // The number of the pair.
 const PAIR: usize = 9;
@@ -26,7 +25,7 @@ pub fn change(
 }
 
 fn changed(name: &[u8], cells: &[u16], what: usize) {
-    say::text(name);
+    trial::text(name);
     agree::book(cells, what);
 }
 
