@@ -1,4 +1,4 @@
--- `agreement_test::follow::settle` is safe and ends. Assumes nothing.
+-- `agreement_test::follow::settle` meets its contract. Assumes nothing.
 use Prim.Native.Nat.{_-_, _≤_, _<_}
 use borrow.Author.Needs.{needs}
 use Rattle.agreement_test.proofs.follow.settle.Statement.{statement}

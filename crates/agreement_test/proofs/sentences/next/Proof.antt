@@ -1,4 +1,4 @@
--- `agreement_test::sentences::next` is safe and ends. Assumes nothing.
+-- `agreement_test::sentences::next` meets its contract. Assumes nothing.
 use Prim.Native.Nat.{_≤_}
 use borrow.Author.Needs.{needs}
 use Rattle.agreement_test.proofs.sentences.next.Statement.{statement}

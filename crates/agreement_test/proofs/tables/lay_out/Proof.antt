@@ -1,4 +1,4 @@
--- `agreement_test::tables::lay_out` is safe and ends. Assumes nothing.
+-- `agreement_test::tables::lay_out` meets its contract. Assumes nothing.
 use Prim.Native.Nat.{_+_, _-_, _≤_}
 use native.Mathlib.Omega.{arith}
 use mathlib.Core.Logic.{⊎-elim}

@@ -1,4 +1,4 @@
--- `agreement_test::verdicts::below` is safe and ends. Assumes nothing.
+-- `agreement_test::verdicts::below` meets its contract. Assumes nothing.
 use Prim.Native.Nat.{_-_, _≤_}
 use native.Mathlib.Omega.{arith}
 use mathlib.Core.Logic.{⊎-elim}

@@ -1,4 +1,4 @@
--- `agreement_test::verdicts::count` is safe and ends. Assumes nothing.
+-- `agreement_test::verdicts::count` meets its contract. Assumes nothing.
 use Prim.Native.Nat.{_-_, _≤_}
 use native.Mathlib.Omega.{arith}
 use mathlib.Core.Logic.{⊎-elim}
