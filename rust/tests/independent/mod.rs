@@ -1,4 +1,4 @@
-//! A second implementation of every call, written from the specification alone, to compare the
+//! A second implementation of every call, written from the specification and not from the library's code, to compare the
 //! library with. Only the plain answer types are shared.
 //!
 //! Its finder works another way than the library's: pop summaries by rising cost (`summaries`),
