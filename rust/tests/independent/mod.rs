@@ -1,5 +1,5 @@
-//! A second implementation of every call, written from the specification and not from the library's code, to compare the
-//! library with. Only the plain answer types are shared.
+//! A second implementation of every call, written from the specification and not from the
+//! library's code, to compare the library with. Only the plain answer types are shared.
 //!
 //! Its finder works another way than the library's: pop summaries by rising cost (`summaries`),
 //! then distances and words over them (`reach`, `words`).
