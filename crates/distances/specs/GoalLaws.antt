@@ -13,7 +13,7 @@ use Rattle.book.specs.TablesLaws.{Holds, in-range, goto-some}
 use Rattle.book.specs.declared.Action.the-variants.{Shift}
 use Rattle.book.specs.declared.Sizes.{Sizes}
 use Rattle.walk.specs.WalkLaws.{Opens, shifts}
-use Rattle.walk.specs.Cost.{unreached}
+use Rattle.walk.specs.Scale.{Scale, unreached, shiftCost}
 use Rattle.walk.specs.CostLaws.{plus-zero, plus-far-left, plus-far-right}
 use Rattle.walk.specs.Claims.{Claims, Onward}
 use Rattle.walk.specs.ClaimsLaws.{claimed-bounded, claimed-next, goal-exact}
@@ -32,7 +32,7 @@ use Rattle.distances.specs.Pass.{Bounded, Marked, From, Drawn, Lessened,
 use Rattle.distances.specs.TableLaws.{table-closed, table-witnessed}
 
 -- the least of v and one candidate
-pub lessened : (v w x y r : ℕ) → r ≡ min x y → x ≡ v → y ≡ w → Step (λ q z u. u ≡ w) (λ q z. v) (λ q z. r)
+pub lessened : {σ : Scale} (v w x y r : ℕ) → r ≡ min x y → x ≡ v → y ≡ w → Step σ (λ q z u. u ≡ w) (λ q z. v) (λ q z. r)
 lessened v w x y r m ex ey = record {
   fall = λ q z h. omega arith;
   below = λ q z u e h l. omega arith;
@@ -43,160 +43,160 @@ lessened v w x y r m ex ey = record {
     pick (yes l) = inl (omega arith)
     pick (no l) = inr (omega arith)
 
-module _ {d : Sizes} {cells : List ℕ} (h : Holds d cells) (dist : List ℕ) where
+module _ {σ : Scale} {d : Sizes} {cells : List ℕ} (h : Holds d cells) (dist : List ℕ) where
   -- the shift of a ..
-  pub to-shift : (q a : ℕ) {g v r : ℕ} → tablesOf cells .act q a ≡ Shift g → LessenedUpto (PastShift (distanceIn dist) g) (d .t) v r
-      → Lessened (ByShift d (tablesOf cells) (distanceIn dist) q a) v r
+  pub to-shift : (q a : ℕ) {g v r : ℕ} → tablesOf cells .act q a ≡ Shift g → LessenedUpto σ (PastShift σ (shiftCost σ a) (distanceIn σ dist) g) (d .t) v r
+      → Lessened σ (ByShift σ d (tablesOf cells) (distanceIn σ dist) q a) v r
   to-shift q a {g} {v} {r} e s = step-as (λ q′ z w (b, hb, i). rw i (by-shift b e hb)) (λ q′ z w x. back w x) s
     where
-      back : (w : ℕ) → ByShift d (tablesOf cells) (distanceIn dist) q a w → (b : ℕ) × (b < d .t) × PastShift (distanceIn dist) g b w
+      back : (w : ℕ) → ByShift σ d (tablesOf cells) (distanceIn σ dist) q a w → (b : ℕ) × (b < d .t) × PastShift σ (shiftCost σ a) (distanceIn σ dist) g b w
       back _ (by-shift {g = g′} b f hb) = let i : g′ ≡ g = cc in (b, hb, rw i refl)
 
-  pub to-no-shift : (q a v : ℕ) → ((s : ℕ) → tablesOf cells .act q a ≡ Shift s → ⊥) → Lessened (ByShift d (tablesOf cells) (distanceIn dist) q a) v v
+  pub to-no-shift : (q a v : ℕ) → ((s : ℕ) → tablesOf cells .act q a ≡ Shift s → ⊥) → Lessened σ (ByShift σ d (tablesOf cells) (distanceIn σ dist) q a) v v
   to-no-shift q a v f = step-none (λ q′ z w x l u. back w x)
     where
-      back : (w : ℕ) → ByShift d (tablesOf cells) (distanceIn dist) q a w → ⊥
+      back : (w : ℕ) → ByShift σ d (tablesOf cells) (distanceIn σ dist) q a w → ⊥
       back _ (by-shift {g} b e hb) = f g e
 
   -- .. and the goto under X
   pub to-goto : (q a X : ℕ) {g v r start : ℕ} (table : List ℕ) → tablesOf cells .goto q X ≡ suc g → start ≡ crossingRow d q X a
-      → LessenedUpto (PastGoto (distanceIn dist) table start g) (d .t) v r → Lessened (ByGoto d (tablesOf cells) (claimIn d table) (distanceIn dist) q a X) v r
+      → LessenedUpto σ (PastGoto σ (distanceIn σ dist) table start g) (d .t) v r → Lessened σ (ByGoto σ d (tablesOf cells) (claimIn d table) (distanceIn σ dist) q a X) v r
   unfolding claimIn
   to-goto q a X {g} {v} {r} {start} table e i s = step-as (λ q′ z w (b, hb, k). rw (k, i) (by-goto b e hb)) (λ q′ z w x. back w x) s
     where
-      back : (w : ℕ) → ByGoto d (tablesOf cells) (claimIn d table) (distanceIn dist) q a X w → (b : ℕ) × (b < d .t) × PastGoto (distanceIn dist) table start g b w
+      back : (w : ℕ) → ByGoto σ d (tablesOf cells) (claimIn d table) (distanceIn σ dist) q a X w → (b : ℕ) × (b < d .t) × PastGoto σ (distanceIn σ dist) table start g b w
       back _ (by-goto {g = g′} b f hb) = let k : g′ ≡ g = omega arith in (b, hb, rw (k, i) refl)
 
-  pub to-no-goto : (q a X v : ℕ) (claim : Claims) → tablesOf cells .goto q X ≡ 0 → Lessened (ByGoto d (tablesOf cells) claim (distanceIn dist) q a X) v v
+  pub to-no-goto : (q a X v : ℕ) (claim : Claims) → tablesOf cells .goto q X ≡ 0 → Lessened σ (ByGoto σ d (tablesOf cells) claim (distanceIn σ dist) q a X) v v
   to-no-goto q a X v claim e = step-none (λ q′ z w x l u. back w x)
     where
-      back : (w : ℕ) → ByGoto d (tablesOf cells) claim (distanceIn dist) q a X w → ⊥
+      back : (w : ℕ) → ByGoto σ d (tablesOf cells) claim (distanceIn σ dist) q a X w → ⊥
       back _ (by-goto b f hb) = omega arith
 
   module _ {claim : Claims} {q a r : ℕ} (ha : a < tablesOf cells .terminals)
-      (s : Step (λ q′ z w. ByShift d (tablesOf cells) (distanceIn dist) q a w ⊎ Upto (λ X q″ y u. ByGoto d (tablesOf cells) claim (distanceIn dist) q a X u) (d .n) q′ z w) (λ q′ z. unreached) (λ q′ z. r)) where
-    candidate : {v : ℕ} → Sooner (tablesOf cells) claim (distanceIn dist) q a v
-        → ByShift d (tablesOf cells) (distanceIn dist) q a v ⊎ Upto (λ X q″ y u. ByGoto d (tablesOf cells) claim (distanceIn dist) q a X u) (d .n) 0 0 v
+      (s : Step σ (λ q′ z w. ByShift σ d (tablesOf cells) (distanceIn σ dist) q a w ⊎ Upto (λ X q″ y u. ByGoto σ d (tablesOf cells) claim (distanceIn σ dist) q a X u) (d .n) q′ z w) (λ q′ z. (unreached σ)) (λ q′ z. r)) where
+    candidate : {v : ℕ} → Sooner σ (tablesOf cells) claim (distanceIn σ dist) q a v
+        → ByShift σ d (tablesOf cells) (distanceIn σ dist) q a v ⊎ Upto (λ X q″ y u. ByGoto σ d (tablesOf cells) claim (distanceIn σ dist) q a X u) (d .n) 0 0 v
     candidate (from-shift b e hb) = inl (by-shift b e (rw (terminals-are h) at hb))
     candidate (from-goto {q₁} X b g hb) = let (lq, lX, lg) = goto-some h q X q₁ g in inr (X, lX, by-goto b g (rw (terminals-are h) at hb))
 
     -- the least that one transition makes ..
-    pub sooner-below : {v : ℕ} → Sooner (tablesOf cells) claim (distanceIn dist) q a v → r ≤ v
-    sooner-below {v} x = go (decLt v unreached)
+    pub sooner-below : {v : ℕ} → Sooner σ (tablesOf cells) claim (distanceIn σ dist) q a v → r ≤ v
+    sooner-below {v} x = go (decLt v (unreached σ))
       where
-        go : Dec (v < unreached) → r ≤ v
+        go : Dec (v < unreached σ) → r ≤ v
         go (yes u) = s .below 0 0 v (candidate x) (omega arith) u
         go (no u) = omega (arith, s .fall 0 0 (omega arith))
 
     -- .. is made by one, or unreached
-    pub sooner-attained : (r ≡ unreached) ⊎ Sooner (tablesOf cells) claim (distanceIn dist) q a r
+    pub sooner-attained : (r ≡ unreached σ) ⊎ Sooner σ (tablesOf cells) claim (distanceIn σ dist) q a r
     sooner-attained = ⊎-elim inl (λ c. inr (⊎-elim (λ x. shift x) (λ (X, hX, x). goto X x) c)) (s .attained 0 0 (omega arith))
       where
-        shift : {w : ℕ} → ByShift d (tablesOf cells) (distanceIn dist) q a w → Sooner (tablesOf cells) claim (distanceIn dist) q a w
+        shift : {w : ℕ} → ByShift σ d (tablesOf cells) (distanceIn σ dist) q a w → Sooner σ (tablesOf cells) claim (distanceIn σ dist) q a w
         shift (by-shift b e hb) = from-shift b e (rw (terminals-are h) hb)
 
-        goto : {w : ℕ} (X : ℕ) → ByGoto d (tablesOf cells) claim (distanceIn dist) q a X w → Sooner (tablesOf cells) claim (distanceIn dist) q a w
+        goto : {w : ℕ} (X : ℕ) → ByGoto σ d (tablesOf cells) claim (distanceIn σ dist) q a X w → Sooner σ (tablesOf cells) claim (distanceIn σ dist) q a w
         goto X (by-goto b e hb) = from-goto X b e (rw (terminals-are h) hb)
 
-    pub nearest : distanceIn dist q a ≤ r → Nearest (tablesOf cells) claim q a (distanceIn dist)
+    pub nearest : distanceIn σ dist q a ≤ r → Nearest σ (tablesOf cells) claim q a (distanceIn σ dist)
     nearest l = record { bound = λ x. le-trans l (sooner-below x) }
 
   -- where no walk begins nothing is near
-  pub nearest-unopened : {claim : Claims} {q a : ℕ} → Quiet (tablesOf cells) claim → ¬ Opens (tablesOf cells) q a → a < tablesOf cells .terminals
-      → Bounded (tablesOf cells .terminals) dist → Nearest (tablesOf cells) claim q a (distanceIn dist)
+  pub nearest-unopened : {claim : Claims} {q a : ℕ} → Quiet σ (tablesOf cells) claim → ¬ Opens (tablesOf cells) q a → a < tablesOf cells .terminals
+      → Bounded σ (tablesOf cells .terminals) dist → Nearest σ (tablesOf cells) claim q a (distanceIn σ dist)
   nearest-unopened {claim} {q} {a} k o ha b = record { bound = λ x. low x }
     where
-      low : {v : ℕ} → Sooner (tablesOf cells) claim (distanceIn dist) q a v → distanceIn dist q a ≤ v
+      low : {v : ℕ} → Sooner σ (tablesOf cells) claim (distanceIn σ dist) q a v → distanceIn σ dist q a ≤ v
       low (from-shift c e hc) = absurd (o (shifts e))
       low (from-goto {q₁} X c g hc) =
-          omega (arith, b .most q a ha, plus-far-left (claim q X a c) (distanceIn dist q₁ c) (omega (arith, k .unopened {z = c} o ha hc g)))
+          omega (arith, b .most q a ha, plus-far-left σ (claim q X a c) (distanceIn σ dist q₁ c) (omega (arith, k .unopened {z = c} o ha hc g)))
 
 -- ---- states without a value
-module _ {t : ℕ} {flags dist : List ℕ} (m : Marked t flags dist) where
-  pub past-shift-off : (g : ℕ) {v : ℕ} → getD flags g 0 ≡ 0 → LessenedUpto (PastShift (distanceIn dist) g) t v v
-  past-shift-off g e = step-none (λ q z w (b, hb, i) l u. omega (arith, i, plus-far-right 1 (distanceIn dist g b) (omega (arith, m .off g b hb e))))
+module _ {σ : Scale} {t : ℕ} {flags dist : List ℕ} (m : Marked σ t flags dist) where
+  pub past-shift-off : (g one : ℕ) {v : ℕ} → getD flags g 0 ≡ 0 → LessenedUpto σ (PastShift σ one (distanceIn σ dist) g) t v v
+  past-shift-off g one e = step-none (λ q z w (b, hb, i) l u. omega (arith, i, plus-far-right σ one (distanceIn σ dist g b) (omega (arith, m .off g b hb e))))
 
-  pub past-goto-off : (g : ℕ) (table : List ℕ) (start : ℕ) {v : ℕ} → getD flags g 0 ≡ 0 → LessenedUpto (PastGoto (distanceIn dist) table start g) t v v
+  pub past-goto-off : (g : ℕ) (table : List ℕ) (start : ℕ) {v : ℕ} → getD flags g 0 ≡ 0 → LessenedUpto σ (PastGoto σ (distanceIn σ dist) table start g) t v v
   past-goto-off g table start e =
-      step-none (λ q z w (b, hb, i) l u. omega (arith, i, plus-far-right (getD table (start + b) 0) (distanceIn dist g b) (omega (arith, m .off g b hb e))))
+      step-none (λ q z w (b, hb, i) l u. omega (arith, i, plus-far-right σ (getD table (start + b) 0) (distanceIn σ dist g b) (omega (arith, m .off g b hb e))))
 
   -- a store in the row of a state that is turned on
-  pub marked-store : {new : List ℕ} {r : ℕ} (q a v : ℕ) → t ≤ 32 → q < 128 → a < t → Stored (q * 32 + a) v dist r new → Marked t (set flags q 1) new
+  pub marked-store : {new : List ℕ} {r : ℕ} (q a v : ℕ) → t ≤ 32 → q < 128 → a < t → Stored (q * 32 + a) v dist r new → Marked σ t (set flags q 1) new
   marked-store q a v small hq ha s = record { count = length-set flags q 1 ∙ m .count; off = λ q′ z hz e. off s q′ z hz e (ℕ-discrete q′ q) }
     where
-      off : {new : List ℕ} {r : ℕ} → Stored (q * 32 + a) v dist r new → (q′ z : ℕ) → z < t → getD (set flags q 1) q′ 0 ≡ 0 → Dec (q′ ≡ q) → distanceIn new q′ z ≡ unreached
+      off : {new : List ℕ} {r : ℕ} → Stored (q * 32 + a) v dist r new → (q′ z : ℕ) → z < t → getD (set flags q 1) q′ 0 ≡ 0 → Dec (q′ ≡ q) → distanceIn σ new q′ z ≡ unreached σ
       off s q′ z hz e (yes i) = absurd (omega (arith, getD-set-same flags q 1 0 (omega (arith, m .count)), rw i at e))
       off (kept l) q′ z hz e (no i) = m .off q′ z hz (rw (getD-set-other flags q q′ 1 0 i) at e)
       off (stored l) q′ z hz e (no i) =
-          distance-other dist q a v q′ z (omega arith) (omega arith) (λ j k. i j) ∙ m .off q′ z hz (rw (getD-set-other flags q q′ 1 0 i) at e)
+          distance-other σ dist q a v q′ z (omega arith) (omega arith) (λ j k. i j) ∙ m .off q′ z hz (rw (getD-set-other flags q q′ 1 0 i) at e)
 
 -- the states below i are marked as they are, the others as before
-pub record MarkedBelow (t i : ℕ) (flags dist : List ℕ) : Type 0 where
+pub record MarkedBelow (σ : Scale) (t i : ℕ) (flags dist : List ℕ) : Type 0 where
   pub count : length flags ≡ 128
-  pub off : (q z : ℕ) → q < i → z < t → getD flags q 0 ≡ 0 → distanceIn dist q z ≡ unreached
+  pub off : (q z : ℕ) → q < i → z < t → getD flags q 0 ≡ 0 → distanceIn σ dist q z ≡ unreached σ
 
-pub below-more : {t : ℕ} {flags dist : List ℕ} (i v : ℕ) → i < 128 → (v ≡ 0 → (z : ℕ) → z < t → distanceIn dist i z ≡ unreached) → MarkedBelow t i flags dist
-    → MarkedBelow t (i + 1) (set flags i v) dist
-below-more {t} {flags} {dist} i v h f m = record { count = length-set flags i v ∙ m .count; off = λ q z l hz e. off q z l hz e (ℕ-discrete q i) }
+pub below-more : {σ : Scale} {t : ℕ} {flags dist : List ℕ} (i v : ℕ) → i < 128 → (v ≡ 0 → (z : ℕ) → z < t → distanceIn σ dist i z ≡ unreached σ) → MarkedBelow σ t i flags dist
+    → MarkedBelow σ t (i + 1) (set flags i v) dist
+below-more {σ} {t} {flags} {dist} i v h f m = record { count = length-set flags i v ∙ m .count; off = λ q z l hz e. off q z l hz e (ℕ-discrete q i) }
   where
-    off : (q z : ℕ) → q < i + 1 → z < t → getD (set flags i v) q 0 ≡ 0 → Dec (q ≡ i) → distanceIn dist q z ≡ unreached
+    off : (q z : ℕ) → q < i + 1 → z < t → getD (set flags i v) q 0 ≡ 0 → Dec (q ≡ i) → distanceIn σ dist q z ≡ unreached σ
     off q z l hz e (yes k) = rw k (f (sym (getD-set-same flags i v 0 (omega (arith, m .count))) ∙ rw k at e) z hz)
     off q z l hz e (no k) = m .off q z (omega arith) hz (rw (getD-set-other flags i q v 0 k) at e)
 
-pub below-all : {t : ℕ} {flags dist : List ℕ} → MarkedBelow t 128 flags dist → Marked t flags dist
-below-all {t} {flags} {dist} m = record { count = m .count; off = λ q z hz e. off q z hz e (decLt q 128) }
+pub below-all : {σ : Scale} {t : ℕ} {flags dist : List ℕ} → MarkedBelow σ t 128 flags dist → Marked σ t flags dist
+below-all {σ} {t} {flags} {dist} m = record { count = m .count; off = λ q z hz e. off q z hz e (decLt q 128) }
   where
-    off : (q z : ℕ) → z < t → getD flags q 0 ≡ 0 → Dec (q < 128) → distanceIn dist q z ≡ unreached
+    off : (q z : ℕ) → z < t → getD flags q 0 ≡ 0 → Dec (q < 128) → distanceIn σ dist q z ≡ unreached σ
     off q z hz e (yes l) = m .off q z l hz e
-    off q z hz e (no l) = distance-out dist q z (omega arith)
+    off q z hz e (no l) = distance-out σ dist q z (omega arith)
 
 -- from the last state to the first is every state
-pub nearest-back : (B : Tables) (claim : Claims) (t s : ℕ) (l : List ℕ) → Each (λ i. Each (λ a l. Nearest B claim (s - 1 - i) a (distanceIn l)) t) s l
-    → Each (λ q. Each (λ a l. Nearest B claim q a (distanceIn l)) t) s l
-nearest-back B claim t s l f q h a ha = let i : s - 1 - (s - 1 - q) ≡ q = omega arith in rw i at (f (s - 1 - q) (omega arith) a ha)
+pub nearest-back : (σ : Scale) (B : Tables) (claim : Claims) (t s : ℕ) (l : List ℕ) → Each (λ i. Each (λ a l. Nearest σ B claim (s - 1 - i) a (distanceIn σ l)) t) s l
+    → Each (λ q. Each (λ a l. Nearest σ B claim q a (distanceIn σ l)) t) s l
+nearest-back σ B claim t s l f q h a ha = let i : s - 1 - (s - 1 - q) ≡ q = omega arith in rw i at (f (s - 1 - q) (omega arith) a ha)
 
 -- the set of goal pairs is bounded
-pub goals-bounded : {t : ℕ} {goals : List ℕ} → t ≤ 32 → Goals goals → Bounded t goals
-goals-bounded {t} {goals} small k = record { size = k .size; most = λ q z hz. most q z hz (decLt q 128) }
+pub goals-bounded : {σ : Scale} {t : ℕ} {goals : List ℕ} → t ≤ 32 → Goals σ goals → Bounded σ t goals
+goals-bounded {σ} {t} {goals} small k = record { size = k .size; most = λ q z hz. most q z hz (decLt q 128) }
   where
-    most : (q z : ℕ) → z < t → Dec (q < 128) → distanceIn goals q z ≤ unreached
-    most q z hz (yes l) = rw (distance-entry goals q z l) (⊎-elim (λ e. omega arith) (λ e. omega arith) (k .marks q z l (omega arith)))
-    most q z hz (no l) = le-of-eq (distance-out goals q z (omega arith))
+    most : (q z : ℕ) → z < t → Dec (q < 128) → distanceIn σ goals q z ≤ unreached σ
+    most q z hz (yes l) = rw (distance-entry σ goals q z l) (⊎-elim (λ e. omega arith) (λ e. omega arith) (k .marks q z l (omega arith)))
+    most q z hz (no l) = le-of-eq (distance-out σ goals q z (omega arith))
 
-module _ {d : Sizes} {cells table goals : List ℕ} (h : Holds d cells) (t : CrossingTable d cells table) (k : Goals goals) where
-  drawn-onward : (q a w : ℕ) → From (tablesOf cells) (claimIn d table) (distanceIn goals) q a w
-      → (w ≡ unreached) ⊎ Onward (tablesOf cells) (claimIn d table) (GoalIn d goals) q a w
+module _ {σ : Scale} {d : Sizes} {cells table goals : List ℕ} (h : Holds d cells) (t : CrossingTable σ d cells table) (k : Goals σ goals) where
+  drawn-onward : (q a w : ℕ) → From σ (tablesOf cells) (claimIn d table) (distanceIn σ goals) q a w
+      → (w ≡ unreached σ) ⊎ Onward σ (tablesOf cells) (claimIn d table) (GoalIn d goals) q a w
   drawn-onward q a w x = go (decLt (x .state) 128)
     where
       terminal : x .next < d .t
       terminal = rw (terminals-are h) at (claimed-next (x .walk))
 
-      at : x .state < 128 → (entryIn goals (x .state) (x .next) ≡ 0) ⊎ (entryIn goals (x .state) (x .next) ≡ unreached)
-          → (w ≡ unreached) ⊎ Onward (tablesOf cells) (claimIn d table) (GoalIn d goals) q a w
+      at : x .state < 128 → (entryIn goals (x .state) (x .next) ≡ 0) ⊎ (entryIn goals (x .state) (x .next) ≡ unreached σ)
+          → (w ≡ unreached σ) ⊎ Onward σ (tablesOf cells) (claimIn d table) (GoalIn d goals) q a w
       at l (inl e) =
-          let same : w ≡ x .before = rw (distance-entry goals (x .state) (x .next) l, e, plus-zero (x .before) (claimed-bounded (x .walk))) at (x .sum) in
+          let same : w ≡ x .before = rw (distance-entry σ goals (x .state) (x .next) l, e, plus-zero σ (x .before) (claimed-bounded (x .walk))) at (x .sum) in
           inr (x .count, x .state, x .next, record { state = l; terminal = terminal; mark = e }, rw same (x .walk))
-      at l (inr e) = inl (rw (distance-entry goals (x .state) (x .next) l) at (x .sum) ∙ plus-far-right _ _ (omega arith))
+      at l (inr e) = inl (rw (distance-entry σ goals (x .state) (x .next) l) at (x .sum) ∙ plus-far-right σ _ _ (omega arith))
 
-      go : Dec (x .state < 128) → (w ≡ unreached) ⊎ Onward (tablesOf cells) (claimIn d table) (GoalIn d goals) q a w
+      go : Dec (x .state < 128) → (w ≡ unreached σ) ⊎ Onward σ (tablesOf cells) (claimIn d table) (GoalIn d goals) q a w
       go (yes l) = at l (k .marks (x .state) (x .next) l (omega (arith, terminal, h .small .terminals)))
-      go (no l) = inl (x .sum ∙ plus-far-right _ _ (omega (arith, distance-out goals (x .state) (x .next) (omega arith))))
+      go (no l) = inl (x .sum ∙ plus-far-right σ _ _ (omega (arith, distance-out σ goals (x .state) (x .next) (omega arith))))
 
-  pub goal-table : {dist : List ℕ} → Drawn (tablesOf cells) (claimIn d table) goals dist
-      → Each (λ q. Each (λ a l. Nearest (tablesOf cells) (claimIn d table) q a (distanceIn l)) (d .t)) (d .s) dist → GoalTable d cells goals dist
+  pub goal-table : {dist : List ℕ} → Drawn σ (tablesOf cells) (claimIn d table) goals dist
+      → Each (λ q. Each (λ a l. Nearest σ (tablesOf cells) (claimIn d table) q a (distanceIn σ l)) (d .t)) (d .s) dist → GoalTable σ d cells goals dist
   goal-table {dist} w near = record {
     size = w .bounded .size;
-    exact = λ q a hq ha. rw (← distance-entry dist q a (omega (arith, h .small .states)))
+    exact = λ q a hq ha. rw (← distance-entry σ dist q a (omega (arith, h .small .states)))
         (goal-exact (in-range h) (table-closed h t) (table-witnessed h t) (λ s z g. rw (terminals-are h) (g .terminal)) (goal-least end (rw (terminals-are h) ha)));
   }
     where
-      sooner-range : {q a v : ℕ} → Sooner (tablesOf cells) (claimIn d table) (distanceIn dist) q a v → q < d .s
+      sooner-range : {q a v : ℕ} → Sooner σ (tablesOf cells) (claimIn d table) (distanceIn σ dist) q a v → q < d .s
       sooner-range {q} {a} (from-shift {q₁} b e hb) = rw (states-are h) at (in-range h .shifts q a q₁ e .0)
       sooner-range {q} (from-goto {q₁} X b g hb) = goto-some h q X q₁ g .0
 
-      end : ToGoal (tablesOf cells) (claimIn d table) (GoalIn d goals) (distanceIn dist)
+      end : ToGoal σ (tablesOf cells) (claimIn d table) (GoalIn d goals) (distanceIn σ dist)
       end = record {
-        goal = λ s z g hz. le-trans (w .fall s z hz) (rw (distance-entry goals s z (g .state)) (le-of-eq (g .mark)));
+        goal = λ s z g hz. le-trans (w .fall s z hz) (rw (distance-entry σ goals s z (g .state)) (le-of-eq (g .mark)));
         closed = λ q a v ha x. near q (sooner-range x) a (rw (terminals-are h) at ha) .bound x;
         attained = λ q a ha. ⊎-elim inl (λ x. drawn-onward q a _ x) (w .drawn q a ha);
       }

@@ -9,7 +9,8 @@ use native.Mathlib.Omega.{arith}
 use lib.ListN.{length, getD, set, length-set}
 use lib.Seq.{set-getD}
 use Rattle.book.specs.Tables.{Tables}
-use Rattle.walk.specs.Cost.{unreached, plus}
+use Rattle.walk.specs.Scale.{Scale, unreached, shiftCost}
+use Rattle.walk.specs.Cost.{plus}
 use Rattle.walk.specs.CostLaws.{plus-zero, zero-plus, plus-assoc, plus-far-right}
 use Rattle.walk.specs.Claims.{Claims, none}
 use Rattle.walk.specs.ClaimsLaws.{claimed-next, claimed-append, claimed-shift, claimed-goto}
@@ -23,18 +24,18 @@ use Rattle.distances.specs.DistancesLaws.{distance-read, distance-same, 
 use Rattle.distances.specs.Pass.{Merged, Bounded, From, Drawn, Pass}
 
 -- ---- entries lowered to those of a layer
-pub merged-none : {P : ℕ → ℕ → ℕ → Type 0} {l : List ℕ} → length l ≡ 4096 → ((q z w : ℕ) → P q z w → z < 32 → w < unreached → ⊥) → Merged P 0 l l
+pub merged-none : {σ : Scale} {P : ℕ → ℕ → ℕ → Type 0} {l : List ℕ} → length l ≡ 4096 → ((q z w : ℕ) → P q z w → z < 32 → w < unreached σ → ⊥) → Merged σ P 0 l l
 merged-none h f = record { size = h; step = step-none f; sum = omega arith; same = λ e. refl }
 
-pub merged-zero : {P : ℕ → ℕ → ℕ → ℕ → Type 0} {l : List ℕ} → length l ≡ 4096 → Merged (Upto P 0) 0 l l
+pub merged-zero : {σ : Scale} {P : ℕ → ℕ → ℕ → ℕ → Type 0} {l : List ℕ} → length l ≡ 4096 → Merged σ (Upto P 0) 0 l l
 merged-zero h = record { size = h; step = step-zero; sum = omega arith; same = λ e. refl }
 
 -- one store; a cell that is kept holds the least already
-pub merged-store : {old new : List ℕ} {r : ℕ} (g j v w : ℕ) → g < 128 → j < 32 → length old ≡ 4096 → v ≡ w → Stored (g * 32 + j) v old r new
-    → Merged (λ q z w′. (q ≡ g) × (z ≡ j) × (w′ ≡ w)) r old new
-merged-store {old} g j v w hg hj h e (kept l) = record {
+pub merged-store : {σ : Scale} {old new : List ℕ} {r : ℕ} (g j v w : ℕ) → g < 128 → j < 32 → length old ≡ 4096 → v ≡ w → Stored (g * 32 + j) v old r new
+    → Merged σ (λ q z w′. (q ≡ g) × (z ≡ j) × (w′ ≡ w)) r old new
+merged-store {σ} {old} g j v w hg hj h e (kept l) = record {
   size = h;
-  step = rw (set-getD old (g * 32 + j) 0) at (step-least old g j w (getD old (g * 32 + j) 0) v (getD old (g * 32 + j) 0) hj (omega arith) (omega arith) refl e);
+  step = rw (set-getD old (g * 32 + j) 0) at (step-least {σ = σ} old g j w (getD old (g * 32 + j) 0) v (getD old (g * 32 + j) 0) hj (omega arith) (omega arith) refl e);
   sum = omega arith;
   same = λ o. refl;
 }
@@ -45,8 +46,8 @@ merged-store {old} g j v w hg hj h e (stored l) = record {
   same = λ o. absurd (omega (arith, o));
 }
 
-pub merged-more : (P : ℕ → ℕ → ℕ → ℕ → Type 0) (i : ℕ) {n r m : ℕ} {a b c : List ℕ} → m ≡ max n r → Merged (Upto P i) n a b → Merged (P i) r b c
-    → Merged (Upto P (i + 1)) m a c
+pub merged-more : {σ : Scale} (P : ℕ → ℕ → ℕ → ℕ → Type 0) (i : ℕ) {n r m : ℕ} {a b c : List ℕ} → m ≡ max n r → Merged σ (Upto P i) n a b → Merged σ (P i) r b c
+    → Merged σ (Upto P (i + 1)) m a c
 merged-more P i {n} {r} e p q = rw e record {
   size = q .size;
   step = step-more P i (p .step) (q .step);
@@ -54,12 +55,12 @@ merged-more P i {n} {r} e p q = rw e record {
   same = λ o. q .same (omega (arith, o)) ∙ p .same (omega (arith, o));
 }
 
-pub merged-done : (P : ℕ → ℕ → ℕ → ℕ → Type 0) {i n k : ℕ} {a b : List ℕ} → i ≤ k → k ≤ i → Merged (Upto P i) n a b → Merged (Upto P k) n a b
-merged-done P {n} {a} {b} h g p = subst (λ (j : ℕ). Merged (Upto P j) n a b) (le-antisymm h g) p
+pub merged-done : {σ : Scale} (P : ℕ → ℕ → ℕ → ℕ → Type 0) {i n k : ℕ} {a b : List ℕ} → i ≤ k → k ≤ i → Merged σ (Upto P i) n a b → Merged σ (Upto P k) n a b
+merged-done {σ} P {n} {a} {b} h g p = subst (λ (j : ℕ). Merged σ (Upto P j) n a b) (le-antisymm h g) p
 
 -- ---- distances drawn from older ones
-module _ {B : Tables} {claim : Claims} where
-  pub drawn-same : {l : List ℕ} → Bounded (B .terminals) l → Drawn B claim l l
+module _ {σ : Scale} {B : Tables} {claim : Claims} where
+  pub drawn-same : {l : List ℕ} → Bounded σ (B .terminals) l → Drawn σ B claim l l
   drawn-same {l} b = record {
     bounded = b;
     fall = λ q a h. le-refl _;
@@ -69,56 +70,56 @@ module _ {B : Tables} {claim : Claims} where
       next = a;
       before = 0;
       walk = none h;
-      sum = sym (zero-plus (distanceIn l q a) (b .most q a h));
+      sum = sym (zero-plus σ (distanceIn σ l q a) (b .most q a h));
     };
   }
 
-  pub drawn-join : {l m k : List ℕ} → Drawn B claim l m → Drawn B claim m k → Drawn B claim l k
+  pub drawn-join : {l m k : List ℕ} → Drawn σ B claim l m → Drawn σ B claim m k → Drawn σ B claim l k
   drawn-join {l} {m} {k} f g = record {
     bounded = g .bounded;
     fall = λ q a h. le-trans (g .fall q a h) (f .fall q a h);
     drawn = λ q a h. first q a (g .drawn q a h);
   }
     where
-      second : (q a w : ℕ) (x : From B claim (distanceIn m) q a w)
-          → (distanceIn m (x .state) (x .next) ≡ unreached) ⊎ From B claim (distanceIn l) (x .state) (x .next) (distanceIn m (x .state) (x .next))
-          → (w ≡ unreached) ⊎ From B claim (distanceIn l) q a w
-      second q a w x (inl e) = inl (x .sum ∙ plus-far-right _ _ (omega arith))
+      second : (q a w : ℕ) (x : From σ B claim (distanceIn σ m) q a w)
+          → (distanceIn σ m (x .state) (x .next) ≡ unreached σ) ⊎ From σ B claim (distanceIn σ l) (x .state) (x .next) (distanceIn σ m (x .state) (x .next))
+          → (w ≡ unreached σ) ⊎ From σ B claim (distanceIn σ l) q a w
+      second q a w x (inl e) = inl (x .sum ∙ plus-far-right σ _ _ (omega arith))
       second q a w x (inr y) = inr record {
         count = x .count + y .count;
         state = y .state;
         next = y .next;
-        before = plus (x .before) (y .before);
+        before = plus σ (x .before) (y .before);
         walk = claimed-append (x .walk) (y .walk);
         sum = rw (plus-assoc, ← y .sum) (x .sum);
       }
 
-      first : (q a : ℕ) → (distanceIn k q a ≡ unreached) ⊎ From B claim (distanceIn m) q a (distanceIn k q a)
-          → (distanceIn k q a ≡ unreached) ⊎ From B claim (distanceIn l) q a (distanceIn k q a)
+      first : (q a : ℕ) → (distanceIn σ k q a ≡ unreached σ) ⊎ From σ B claim (distanceIn σ m) q a (distanceIn σ k q a)
+          → (distanceIn σ k q a ≡ unreached σ) ⊎ From σ B claim (distanceIn σ l) q a (distanceIn σ k q a)
       first q a (inl e) = inl e
       first q a (inr x) = second q a _ x (f .drawn (x .state) (x .next) (claimed-next (x .walk)))
 
   -- what one transition makes of distances is drawn from them
-  from-sooner : {l : List ℕ} {q a v : ℕ} → Bounded (B .terminals) l → a < B .terminals → Sooner B claim (distanceIn l) q a v → From B claim (distanceIn l) q a v
+  from-sooner : {l : List ℕ} {q a v : ℕ} → Bounded σ (B .terminals) l → a < B .terminals → Sooner σ B claim (distanceIn σ l) q a v → From σ B claim (distanceIn σ l) q a v
   from-sooner {l} {q} {a} b ha (from-shift {q₁} c e h) = record {
     count = 1;
     state = q₁;
     next = c;
-    before = plus 1 0;
+    before = plus σ (shiftCost σ a) 0;
     walk = claimed-shift e ha (none h);
-    sum = rw (plus-zero 1 (omega arith)) refl;
+    sum = rw (plus-zero σ (shiftCost σ a) (omega arith)) refl;
   }
   from-sooner {l} {q} {a} b ha (from-goto {q₁} X c g h) = record {
     count = 1;
     state = q₁;
     next = c;
-    before = plus (claim q X a c) 0;
+    before = plus σ (claim q X a c) 0;
     walk = claimed-goto X g ha (none h);
-    sum = rw (plus-assoc, zero-plus (distanceIn l q₁ c) (b .most q₁ c h)) refl;
+    sum = rw (plus-assoc, zero-plus σ (distanceIn σ l q₁ c) (b .most q₁ c h)) refl;
   }
 
   drawn-set : {l : List ℕ} (q a v : ℕ) → B .terminals ≤ 32 → q < 128 → a < B .terminals → v < getD l (q * 32 + a) 0
-      → (v ≡ unreached) ⊎ Sooner B claim (distanceIn l) q a v → Bounded (B .terminals) l → Drawn B claim l (set l (q * 32 + a) v)
+      → (v ≡ unreached σ) ⊎ Sooner σ B claim (distanceIn σ l) q a v → Bounded σ (B .terminals) l → Drawn σ B claim l (set l (q * 32 + a) v)
   drawn-set {l} q a v small hq ha less x b = record {
     bounded = record {
       size = length-set l (q * 32 + a) v ∙ b .size;
@@ -128,34 +129,34 @@ module _ {B : Tables} {claim : Claims} where
     drawn = λ q′ z h. drawn q′ z h (ℕ-discrete q′ q) (ℕ-discrete z a);
   }
     where
-      same : Drawn B claim l l
+      same : Drawn σ B claim l l
       same = drawn-same b
 
-      at : distanceIn (set l (q * 32 + a) v) q a ≡ v
-      at = distance-same l q a v (b .size) hq (omega arith)
+      at : distanceIn σ (set l (q * 32 + a) v) q a ≡ v
+      at = distance-same σ l q a v (b .size) hq (omega arith)
 
-      other : (q′ z : ℕ) → z < B .terminals → (q′ ≡ q → z ≡ a → ⊥) → distanceIn (set l (q * 32 + a) v) q′ z ≡ distanceIn l q′ z
-      other q′ z h away = distance-other l q a v q′ z (omega arith) (omega arith) away
+      other : (q′ z : ℕ) → z < B .terminals → (q′ ≡ q → z ≡ a → ⊥) → distanceIn σ (set l (q * 32 + a) v) q′ z ≡ distanceIn σ l q′ z
+      other q′ z h away = distance-other σ l q a v q′ z (omega arith) (omega arith) away
 
-      fall : (q′ z : ℕ) → z < B .terminals → Dec (q′ ≡ q) → Dec (z ≡ a) → distanceIn (set l (q * 32 + a) v) q′ z ≤ distanceIn l q′ z
-      fall q′ z h (yes i) (yes j) = rw (i, j, at) (omega (arith, distance-read l q a hq))
+      fall : (q′ z : ℕ) → z < B .terminals → Dec (q′ ≡ q) → Dec (z ≡ a) → distanceIn σ (set l (q * 32 + a) v) q′ z ≤ distanceIn σ l q′ z
+      fall q′ z h (yes i) (yes j) = rw (i, j, at) (omega (arith, distance-read σ l q a hq))
       fall q′ z h (yes i) (no j) = rw (other q′ z h (λ e f. j f)) (le-refl _)
       fall q′ z h (no i) j = rw (other q′ z h (λ e f. i e)) (le-refl _)
 
       drawn : (q′ z : ℕ) → z < B .terminals → Dec (q′ ≡ q) → Dec (z ≡ a)
-          → (distanceIn (set l (q * 32 + a) v) q′ z ≡ unreached) ⊎ From B claim (distanceIn l) q′ z (distanceIn (set l (q * 32 + a) v) q′ z)
+          → (distanceIn σ (set l (q * 32 + a) v) q′ z ≡ unreached σ) ⊎ From σ B claim (distanceIn σ l) q′ z (distanceIn σ (set l (q * 32 + a) v) q′ z)
       drawn q′ z h (yes i) (yes j) = rw (i, j, at) (⊎-map (λ e. e) (λ s. from-sooner b ha s) x)
       drawn q′ z h (yes i) (no j) = rw (other q′ z h (λ e f. j f)) (same .drawn q′ z h)
       drawn q′ z h (no i) j = rw (other q′ z h (λ e f. i e)) (same .drawn q′ z h)
 
   -- ---- passes over them
-  pub pass-none : {D : List ℕ → Type 0} {l : List ℕ} → Bounded (B .terminals) l → D l → Pass B claim D 0 l l
+  pub pass-none : {D : List ℕ → Type 0} {l : List ℕ} → Bounded σ (B .terminals) l → D l → Pass σ B claim D 0 l l
   pass-none b x = record { drawn = drawn-same b; sum = omega arith; same = λ e. refl; done = λ e. x }
 
   pub pass-store : {D : List ℕ → Type 0} {old new : List ℕ} {r : ℕ} (q a v : ℕ) → B .terminals ≤ 32 → q < 128 → a < B .terminals
-      → (v ≡ unreached) ⊎ Sooner B claim (distanceIn old) q a v → Bounded (B .terminals) old → (distanceIn old q a ≤ v → D old)
-      → Stored (q * 32 + a) v old r new → Pass B claim D r old new
-  pass-store {old} q a v small hq ha x b f (kept l) = pass-none b (f (omega (arith, distance-read old q a hq)))
+      → (v ≡ unreached σ) ⊎ Sooner σ B claim (distanceIn σ old) q a v → Bounded σ (B .terminals) old → (distanceIn σ old q a ≤ v → D old)
+      → Stored (q * 32 + a) v old r new → Pass σ B claim D r old new
+  pass-store {old} q a v small hq ha x b f (kept l) = pass-none b (f (omega (arith, distance-read σ old q a hq)))
   pass-store {old} q a v small hq ha x b f (stored l) = record {
     drawn = drawn-set q a v small hq ha l x b;
     sum = omega (arith, total-set old (q * 32 + a) v (omega (arith, b .size)));
@@ -164,8 +165,8 @@ module _ {B : Tables} {claim : Claims} where
   }
 
   -- one turn more
-  pub pass-more : (D : ℕ → List ℕ → Type 0) (i : ℕ) {n r m : ℕ} {a b c : List ℕ} → m ≡ max n r → Pass B claim (Each D i) n a b → Pass B claim (D i) r b c
-      → Pass B claim (Each D (i + 1)) m a c
+  pub pass-more : (D : ℕ → List ℕ → Type 0) (i : ℕ) {n r m : ℕ} {a b c : List ℕ} → m ≡ max n r → Pass σ B claim (Each D i) n a b → Pass σ B claim (D i) r b c
+      → Pass σ B claim (Each D (i + 1)) m a c
   pass-more D i {n} {r} {b} {c} e p q = rw e record {
     drawn = drawn-join (p .drawn) (q .drawn);
     sum = omega arith;
@@ -178,5 +179,5 @@ module _ {B : Tables} {claim : Claims} where
       turn z y j h (no k) = rw (q .same y) (p .done z j (omega arith))
 
   -- the loop is left with every turn done
-  pub pass-done : (D : ℕ → List ℕ → Type 0) {i n k : ℕ} {a b : List ℕ} → i ≤ k → k ≤ i → Pass B claim (Each D i) n a b → Pass B claim (Each D k) n a b
-  pass-done D {n} {a} {b} h g p = subst (λ (j : ℕ). Pass B claim (Each D j) n a b) (le-antisymm h g) p
+  pub pass-done : (D : ℕ → List ℕ → Type 0) {i n k : ℕ} {a b : List ℕ} → i ≤ k → k ≤ i → Pass σ B claim (Each D i) n a b → Pass σ B claim (Each D k) n a b
+  pass-done D {n} {a} {b} h g p = subst (λ (j : ℕ). Pass σ B claim (Each D j) n a b) (le-antisymm h g) p

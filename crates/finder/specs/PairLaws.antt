@@ -1,7 +1,7 @@
 -- Laws of one pair as a goal: the least cost to go from the start is the least length of the words that reach it. Assumes nothing.
 use mathlib.Core.List.{List}
 use mathlib.Core.Logic.{_⊎_, inl, inr, ⊎-elim, _↔_}
-use mathlib.Core.Path.{_≡_, refl, _∙_}
+use mathlib.Core.Path.{_≡_, refl, _∙_, sym}
 use Prim.Native.Nat.{ℕ, _+_, _*_, _≤_, _<_, min}
 use native.Mathlib.Decide.{decLt}
 use native.Mathlib.Omega.{arith}
@@ -11,9 +11,11 @@ use Rattle.book.specs.TablesLaws.{InRange, Holds, in-range}
 use Rattle.book.specs.declared.Sizes.{Sizes}
 use Rattle.machine.specs.Machine.{Reaches}
 use Rattle.layers.specs.Layer.{entryIn}
-use Rattle.walk.specs.Cost.{long, unreached, Exact}
+use Rattle.walk.specs.Scale.{plain, long, unreached}
+use Rattle.walk.specs.Cost.{Exact}
 use Rattle.walk.specs.CostLaws.{exact-map}
 use Rattle.walk.specs.Answer.{Long, Answer, Unreached as Never, Sentence as Word}
+use Rattle.walk.specs.ShortestLaws.{cost-length}
 use Rattle.walk.specs.AnswerLaws.{exact-unreached}
 use Rattle.layers.specs.Crossing.{claimIn}
 use Rattle.layers.specs.CrossingLaws.{terminals-are, states-are}
@@ -48,8 +50,8 @@ module _ {g : ℕ → ℕ} where
 
 -- ---- from the start
 pub start-exact : {B : Tables} {s z m : ℕ} {G : ℕ → ℕ} → InRange B → z < B .terminals
-    → ((a : ℕ) → a < B .terminals → Exact (λ w. (n s′ z′ : ℕ) × OnePair s z s′ z′ × Walk B 0 a w z′ n s′) (G a))
-    → Minimum G (B .terminals) m → Exact (λ w. Reaches B w z s) m
+    → ((a : ℕ) → a < B .terminals → Exact plain (λ w. (n s′ z′ : ℕ) × OnePair s z s′ z′ × Walk B 0 a w z′ n s′) (G a))
+    → Minimum G (B .terminals) m → Exact plain (λ w. Reaches B w z s) m
 start-exact {B} {s} {z} {m} {G} i hz e x = record {
   least = λ w r. let (n, k) = reaches-walk r in let ha = walk-terminal i hz k in omega (arith, x .below (first w z) ha, e (first w z) ha .least w (n, s, z, (refl, refl), k));
   attained = let (a, ha, h) = x .attained in ⊎-elim
@@ -64,7 +66,7 @@ unfolding entryIn
 first-row to a = let same : 0 * 32 + a ≡ a = omega arith in rw same
 
 -- ---- the goal array of one pair
-module _ {d : Sizes} {cells goals dist : List ℕ} {s z : ℕ} (h : Holds d cells) (x : Single s z goals) (hs : s < d .s) (hz : z < d .t) (g : GoalTable d cells goals dist) where
+module _ {d : Sizes} {cells goals dist : List ℕ} {s z : ℕ} (h : Holds d cells) (x : Single plain s z goals) (hs : s < d .s) (hz : z < d .t) (g : GoalTable plain d cells goals dist) where
   goal-pair : (q a : ℕ) → GoalIn d goals q a → OnePair s z q a
   goal-pair q a m = ⊎-elim (λ p. p) (λ n. absurd (omega (arith, m .mark, x .elsewhere q a (m .state) (omega (arith, m .terminal, h .small .terminals)) n))) (one-of s z q a)
 
@@ -76,36 +78,36 @@ module _ {d : Sizes} {cells goals dist : List ℕ} {s z : ℕ} (h : Holds d cell
       ↔ ((n s′ z′ : ℕ) × OnePair s z s′ z′ × Walk (tablesOf cells) q a w z′ n s′)
   ends q a w = (λ (n, s′, z′, j, r). (n, s′, z′, goal-pair s′ z′ j, r), λ (n, s′, z′, j, r). (n, s′, z′, pair-goal s′ z′ j, r))
 
-  pub pair-exact : (q a : ℕ) → q < d .s → a < d .t → Exact (λ w. (n s′ z′ : ℕ) × OnePair s z s′ z′ × Walk (tablesOf cells) q a w z′ n s′) (entryIn dist q a)
+  pub pair-exact : (q a : ℕ) → q < d .s → a < d .t → Exact plain (λ w. (n s′ z′ : ℕ) × OnePair s z s′ z′ × Walk (tablesOf cells) q a w z′ n s′) (entryIn dist q a)
   pair-exact q a hq ha = exact-map (ends q a) (g .exact q a hq ha)
 
-  pub pair-reached : {n : ℕ} → Minimum (entryIn dist 0) (d .t) n → Exact (λ w. Reaches (tablesOf cells) w z s) n
+  pub pair-reached : {n : ℕ} → Minimum (entryIn dist 0) (d .t) n → Exact plain (λ w. Reaches (tablesOf cells) w z s) n
   pair-reached m =
       let t = terminals-are h in
       start-exact {G = entryIn dist 0} (in-range h) (rw t hz) (λ a ha. pair-exact 0 a (h .small .some-state) (rw t at ha)) (rw t m)
 
-  pub to-pair : {table : List ℕ} → CrossingTable d cells table → ToPair (tablesOf cells) (claimIn d table) s z (entryIn dist)
+  pub to-pair : {table : List ℕ} → CrossingTable plain d cells table → ToPair plain (tablesOf cells) (claimIn d table) s z (entryIn dist)
   to-pair t q a hq ha =
       exact-least {Goal = OnePair s z} (in-range h) (table-closed h t) (table-witnessed h t) (λ s′ z′ (e, f). rw (f, terminals-are h) hz)
       (pair-exact q a (rw (states-are h) at hq) (rw (terminals-are h) at ha))
 
 -- ---- the answers
-pub answer-long : {B : Tables} {s z n : ℕ} → Exact (λ w. Reaches B w z s) n → long ≤ n → n < unreached → Answer (λ a. a) B s z Long
+pub answer-long : {B : Tables} {s z n : ℕ} → Exact plain (λ w. Reaches B w z s) n → long plain ≤ n → n < unreached plain → Answer plain (λ a. a) B s z Long
 answer-long e g h = (
   ⊎-elim (λ u. absurd (omega arith)) (λ (w, r, u). (w, r)) (e .attained),
   λ w r. omega (arith, e .least w r),
 )
 
-pub answered-unreached : {B : Tables} {s z n : ℕ} {buffer : List ℕ} → Exact (λ w. Reaches B w z s) n → unreached ≤ n → Answered B s z buffer Unreached buffer
+pub answered-unreached : {B : Tables} {s z n : ℕ} {buffer : List ℕ} → Exact plain (λ w. Reaches B w z s) n → unreached plain ≤ n → Answered B s z buffer Unreached buffer
 answered-unreached {n} e h = record {
   outcome = Never;
-  right = let same : n ≡ unreached = ⊎-elim (λ u. u) (λ (w, r, u). omega (arith, u)) (e .attained) in exact-unreached (λ a. a) _ _ _ (rw same at e);
+  right = let same : n ≡ unreached plain = ⊎-elim (λ u. u) (λ (w, r, u). omega (arith, u)) (e .attained) in exact-unreached plain (λ a. a) _ _ _ (rw same at e);
   told = refl;
   front = refl;
 }
 
-pub answered-long : {B : Tables} {s z n : ℕ} {buffer : List ℕ} → Exact (λ w. Reaches B w z s) n → long ≤ n → n < unreached → Answered B s z buffer Far′ buffer
+pub answered-long : {B : Tables} {s z n : ℕ} {buffer : List ℕ} → Exact plain (λ w. Reaches B w z s) n → long plain ≤ n → n < unreached plain → Answered B s z buffer Far′ buffer
 answered-long e g h = record { outcome = Long; right = answer-long e g h; told = refl; front = refl }
 
-pub answered-sentence : {B : Tables} {s z n : ℕ} {buffer left : List ℕ} → Chose B s z n buffer left → Answered B s z buffer (Sentence n) left
-answered-sentence c = record { outcome = Word (c .word); right = c .answer; told = rw (c .count); front = c .front }
+pub answered-sentence : {B : Tables} {s z n : ℕ} {buffer left : List ℕ} → Chose plain (λ a. a) B s z n buffer left → Answered B s z buffer (Sentence n) left
+answered-sentence c = record { outcome = Word (c .word); right = c .answer; told = rw (sym (cost-length (c .word)) ∙ c .paid); front = c .front }

@@ -11,7 +11,8 @@ use Rattle.book.specs.TablesLaws.{Holds, in-range, goto-some}
 use Rattle.book.specs.declared.Action.the-variants.{Shift}
 use Rattle.book.specs.declared.Sizes.{Sizes}
 use Rattle.walk.specs.WalkLaws.{Opens, shifts}
-use Rattle.walk.specs.Cost.{unreached, plus}
+use Rattle.walk.specs.Scale.{Scale, unreached, shiftCost}
+use Rattle.walk.specs.Cost.{plus}
 use Rattle.walk.specs.CostLaws.{plus-far-left, plus-far-right}
 use Rattle.walk.specs.Claims.{Claims}
 use Rattle.walk.specs.Layers.{Longer, add-shift, add-goto}
@@ -22,32 +23,32 @@ use Rattle.layers.specs.CrossingLaws.{terminals-are, states-are}
 use Rattle.layers.specs.Step.{Step, Upto, Level, Relaxed, ByShift, ByGoto, Leaves, LeavesState}
 use Rattle.layers.specs.StepLaws.{step-none, step-as, step-on, step-from}
 
-module _ (d : Sizes) (want : List ℕ) (B : Tables) (claim : Claims) where
+module _ (σ : Scale) (d : Sizes) (want : List ℕ) (B : Tables) (claim : Claims) where
   -- from an unreached entry nothing is reached
-  leaves-far : (q₁ b v q z w : ℕ) → unreached ≤ v → Leaves d want B claim q₁ b v q z w → w < unreached → ⊥
+  leaves-far : (q₁ b v q z w : ℕ) → unreached σ ≤ v → Leaves σ d want B claim q₁ b v q z w → w < unreached σ → ⊥
   leaves-far q₁ b v q z w h x u = ⊎-elim
-      (λ s. omega (arith, s .2, plus-far-left v 1 h))
-      (λ g. omega (arith, g .2 .2, plus-far-left v (claim q₁ (g .0) b z) h))
+      (λ s. omega (arith, s .2, plus-far-left σ v (shiftCost σ b) h))
+      (λ g. omega (arith, g .2 .2, plus-far-left σ v (claim q₁ (g .0) b z) h))
       x
 
-  pub step-far : {q₁ b v : ℕ} {L : ℕ → ℕ → ℕ} → unreached ≤ v → Step (Leaves d want B claim q₁ b v) L L
+  pub step-far : {q₁ b v : ℕ} {L : ℕ → ℕ → ℕ} → unreached σ ≤ v → Step σ (Leaves σ d want B claim q₁ b v) L L
   step-far {q₁} {b} {v} h = step-none (λ q z w x l u. leaves-far q₁ b v q z w h x u)
 
-  pub step-off : {q₁ : ℕ} (L : ℕ → ℕ → ℕ) {K : ℕ → ℕ → ℕ} → ((b : ℕ) → L q₁ b ≡ unreached) → Step (LeavesState d want B claim L q₁) K K
+  pub step-off : {q₁ : ℕ} (L : ℕ → ℕ → ℕ) {K : ℕ → ℕ → ℕ} → ((b : ℕ) → L q₁ b ≡ unreached σ) → Step σ (LeavesState σ d want B claim L q₁) K K
   step-off {q₁} L off = step-none (λ q z w (b, h, x) l u. leaves-far q₁ b (L q₁ b) q z w (omega (arith, off b)) x u)
 
-module _ {d : Sizes} {cells want : List ℕ} (h : Holds d cells) where
+module _ {σ : Scale} {d : Sizes} {cells want : List ℕ} (h : Holds d cells) where
   -- nor where no walk begins
-  pub step-unopened : {claim : Claims} {q₁ b : ℕ} (v : ℕ) {L : ℕ → ℕ → ℕ} → Quiet (tablesOf cells) claim → ¬ Opens (tablesOf cells) q₁ b → b < d .t
-      → Step (Leaves d want (tablesOf cells) claim q₁ b v) L L
+  pub step-unopened : {claim : Claims} {q₁ b : ℕ} (v : ℕ) {L : ℕ → ℕ → ℕ} → Quiet σ (tablesOf cells) claim → ¬ Opens (tablesOf cells) q₁ b → b < d .t
+      → Step σ (Leaves σ d want (tablesOf cells) claim q₁ b v) L L
   step-unopened {claim} {q₁} {b} v k o hb = step-none (λ q z w x l u. ⊎-elim
       (λ (e, hz, ew, on). o (shifts e))
-      (λ (X, hX, (g, hz, ew, on)). omega (arith, ew, plus-far-right v (claim q₁ X b z) (omega (arith, k .unopened {z = z} o (rw (terminals-are h) hb) (rw (terminals-are h) hz) g))))
+      (λ (X, hX, (g, hz, ew, on)). omega (arith, ew, plus-far-right σ v (claim q₁ X b z) (omega (arith, k .unopened {z = z} o (rw (terminals-are h) hb) (rw (terminals-are h) hz) g))))
       x)
 
   -- a shift lowers the row of its target ..
-  pub step-shift : (q a v : ℕ) {s w : ℕ} (old flags on-values on-flags new : List ℕ) → tablesOf cells .act q a ≡ Shift s → w ≡ plus v 1 → Wanted want s → TurnedOn s old flags on-values on-flags
-      → Step (Upto (Level s w) (d .t)) (entryIn on-values) (entryIn new) → Step (ByShift d want (tablesOf cells) q a v) (valueIn old flags) (valueIn new on-flags)
+  pub step-shift : (q a v : ℕ) {s w : ℕ} (old flags on-values on-flags new : List ℕ) → tablesOf cells .act q a ≡ Shift s → w ≡ plus σ v (shiftCost σ a) → Wanted want s → TurnedOn σ s old flags on-values on-flags
+      → Step σ (Upto (Level s w) (d .t)) (entryIn on-values) (entryIn new) → Step σ (ByShift σ d want (tablesOf cells) q a v) (valueIn σ old flags) (valueIn σ new on-flags)
   step-shift q a v {s} {w} old flags on-values on-flags new e i u on p = step-from (on .same) (step-as
       (λ q′ z x (j, hj, (eq, ez, ex)). (rw eq e, rw ez hj, ex ∙ i, rw eq u))
       (λ q′ z x (e′, hz, ex, k). (z, hz, (target q′ e′, refl, ex ∙ sym i)))
@@ -56,33 +57,33 @@ module _ {d : Sizes} {cells want : List ℕ} (h : Holds d cells) where
       target : (q′ : ℕ) → tablesOf cells .act q a ≡ Shift q′ → q′ ≡ s
       target q′ e′ = cc
 
-  pub step-no-shift : (q a v : ℕ) {L : ℕ → ℕ → ℕ} → ((s : ℕ) → tablesOf cells .act q a ≡ Shift s → ⊥) → Step (ByShift d want (tablesOf cells) q a v) L L
+  pub step-no-shift : (q a v : ℕ) {L : ℕ → ℕ → ℕ} → ((s : ℕ) → tablesOf cells .act q a ≡ Shift s → ⊥) → Step σ (ByShift σ d want (tablesOf cells) q a v) L L
   step-no-shift q a v f = step-none (λ q′ z w x l u. f q′ (x .0))
 
-  pub step-shift-unwanted : (q a v : ℕ) {s : ℕ} {L : ℕ → ℕ → ℕ} → tablesOf cells .act q a ≡ Shift s → getD want s 0 ≡ 0 → Step (ByShift d want (tablesOf cells) q a v) L L
+  pub step-shift-unwanted : (q a v : ℕ) {s : ℕ} {L : ℕ → ℕ → ℕ} → tablesOf cells .act q a ≡ Shift s → getD want s 0 ≡ 0 → Step σ (ByShift σ d want (tablesOf cells) q a v) L L
   step-shift-unwanted q a v {s} e k = step-none (λ q′ z w (f, hz, ew, x) l u. let i : q′ ≡ s = cc in x .on (rw i k))
 
   -- .. and so does a goto, by the row of the crossing table
-  pub step-goto : (q a v X : ℕ) {g start : ℕ} (table old flags on-values on-flags new : List ℕ) → tablesOf cells .goto q X ≡ suc g → start ≡ crossingRow d q X a → Wanted want g → TurnedOn g old flags on-values on-flags
-      → Step (Upto (Relaxed g table start v) (d .t)) (entryIn on-values) (entryIn new)
-      → Step (ByGoto d want (tablesOf cells) (claimIn d table) q a v X) (valueIn old flags) (valueIn new on-flags)
+  pub step-goto : (q a v X : ℕ) {g start : ℕ} (table old flags on-values on-flags new : List ℕ) → tablesOf cells .goto q X ≡ suc g → start ≡ crossingRow d q X a → Wanted want g → TurnedOn σ g old flags on-values on-flags
+      → Step σ (Upto (Relaxed σ g table start v) (d .t)) (entryIn on-values) (entryIn new)
+      → Step σ (ByGoto σ d want (tablesOf cells) (claimIn d table) q a v X) (valueIn σ old flags) (valueIn σ new on-flags)
   unfolding claimIn
   step-goto q a v X {g} {start} table old flags on-values on-flags new e i u on p = step-from (on .same) (step-as
       (λ q′ z w (j, hj, (eq, ez, ew)). (rw eq e, rw ez hj, rw (ez, ← i) ew, rw eq u))
       (λ q′ z w (e′, hz, ew, k). (z, hz, (omega arith, refl, rw i ew)))
       (step-on on-values new on-flags g (on .on) (λ q′ z w (j, hj, eqs). eqs .0) p))
 
-  pub step-no-goto : (claim : Claims) (q a v X : ℕ) {L : ℕ → ℕ → ℕ} → tablesOf cells .goto q X ≡ 0 → Step (ByGoto d want (tablesOf cells) claim q a v X) L L
+  pub step-no-goto : (claim : Claims) (q a v X : ℕ) {L : ℕ → ℕ → ℕ} → tablesOf cells .goto q X ≡ 0 → Step σ (ByGoto σ d want (tablesOf cells) claim q a v X) L L
   step-no-goto claim q a v X e = step-none (λ q′ z w x l u. omega (arith, x .0))
 
-  pub step-goto-unwanted : (claim : Claims) (q a v X : ℕ) {g : ℕ} {L : ℕ → ℕ → ℕ} → tablesOf cells .goto q X ≡ suc g → getD want g 0 ≡ 0 → Step (ByGoto d want (tablesOf cells) claim q a v X) L L
+  pub step-goto-unwanted : (claim : Claims) (q a v X : ℕ) {g : ℕ} {L : ℕ → ℕ → ℕ} → tablesOf cells .goto q X ≡ suc g → getD want g 0 ≡ 0 → Step σ (ByGoto σ d want (tablesOf cells) claim q a v X) L L
   step-goto-unwanted claim q a v X {g} e k = step-none (λ q′ z w (f, hz, ew, x) l u. let i : q′ ≡ g = omega arith in x .on (rw i k))
 
   -- from every state, over a layer that was unreached everywhere
-  pub lengthened : (claim : Claims) (L : ℕ → ℕ → ℕ) {K L′ : ℕ → ℕ → ℕ} → ((q z : ℕ) → K q z ≡ unreached) → Step (Upto (LeavesState d want (tablesOf cells) claim L) (d .s)) K L′
-      → LengthenedTo want (tablesOf cells) claim L L′
+  pub lengthened : (claim : Claims) (L : ℕ → ℕ → ℕ) {K L′ : ℕ → ℕ → ℕ} → ((q z : ℕ) → K q z ≡ unreached σ) → Step σ (Upto (LeavesState σ d want (tablesOf cells) claim L) (d .s)) K L′
+      → LengthenedTo σ want (tablesOf cells) claim L L′
   lengthened claim L {K} {L′} blank s q z hz = record {
-    below = λ x l k. below x l k (decLt x unreached);
+    below = λ x l k. below x l k (decLt x (unreached σ));
     attained = ⊎-elim (λ e. inl (e ∙ blank q z)) (λ c. inr (known q z (L′ q z) c)) (s .attained q z (small hz));
   }
     where
@@ -92,33 +93,33 @@ module _ {d : Sizes} {cells want : List ℕ} (h : Holds d cells) where
       within : {b : ℕ} → b < tablesOf cells .terminals → b < d .t
       within {b} hb = omega (arith, terminals-are h)
 
-      candidate : {q z x : ℕ} → Longer (tablesOf cells) claim L q z x → Wanted want q → Upto (LeavesState d want (tablesOf cells) claim L) (d .s) q z x
+      candidate : {q z x : ℕ} → Longer σ (tablesOf cells) claim L q z x → Wanted want q → Upto (LeavesState σ d want (tablesOf cells) claim L) (d .s) q z x
       candidate (add-shift {q₁} {t} {q₂} z ht e hz) k = (q₁, rw (← states-are h) (in-range h .shifts q₁ t q₂ e .0), (t, within ht, inl (e, within hz, refl, k)))
       candidate (add-goto {q₁} {q₂} X b z hb g hz) k =
           let (l, lX, lg) = goto-some h q₁ X q₂ g in
           (q₁, l, (b, within hb, inr (X, lX, (g, within hz, refl, k))))
 
-      below : (x : ℕ) → Longer (tablesOf cells) claim L q z x → Wanted want q → Dec (x < unreached) → L′ q z ≤ x
+      below : (x : ℕ) → Longer σ (tablesOf cells) claim L q z x → Wanted want q → Dec (x < unreached σ) → L′ q z ≤ x
       below x l k (yes u) = s .below q z x (candidate l k) (small hz) u
       below x l k (no u) = omega (arith, s .fall q z (small hz), blank q z)
 
       terminal : {b : ℕ} → b < d .t → b < tablesOf cells .terminals
       terminal {b} hb = rw (terminals-are h) hb
 
-      known : (q z x : ℕ) → Upto (LeavesState d want (tablesOf cells) claim L) (d .s) q z x → Longer (tablesOf cells) claim L q z x
+      known : (q z x : ℕ) → Upto (LeavesState σ d want (tablesOf cells) claim L) (d .s) q z x → Longer σ (tablesOf cells) claim L q z x
       known q z x (q₁, hq, (b, hb, c)) = ⊎-elim
           (λ (e, hz, ex, k). rw ex (add-shift z (terminal hb) e (terminal hz)))
           (λ (X, hX, (g, hz, ex, k)). rw ex (add-goto X b z (terminal hb) g (terminal hz)))
           c
 
-module _ {d : Sizes} {cells : List ℕ} (h : Holds d cells) where
+module _ {σ : Scale} {d : Sizes} {cells : List ℕ} (h : Holds d cells) where
   -- transitions lead to states of the book
-  pub longer-below : {claim : Claims} {L : ℕ → ℕ → ℕ} {q z x : ℕ} → Longer (tablesOf cells) claim L q z x → q < d .s
+  pub longer-below : {claim : Claims} {L : ℕ → ℕ → ℕ} {q z x : ℕ} → Longer σ (tablesOf cells) claim L q z x → q < d .s
   longer-below (add-shift {q₁} {t} {q₂} z ht e hz) = rw (states-are h) at (in-range h .shifts q₁ t q₂ e .3)
   longer-below (add-goto {q₁} {q₂} X b z hb g hz) = goto-some h q₁ X q₂ g .2
 
   -- where every state is wanted
-  pub lengthened-all : (claim : Claims) (L : ℕ → ℕ → ℕ) {L′ : ℕ → ℕ → ℕ} → LengthenedTo (replicate 128 1) (tablesOf cells) claim L L′ → Lengthened (tablesOf cells) claim L L′
+  pub lengthened-all : (claim : Claims) (L : ℕ → ℕ → ℕ) {L′ : ℕ → ℕ → ℕ} → LengthenedTo σ (replicate 128 1) (tablesOf cells) claim L L′ → Lengthened σ (tablesOf cells) claim L L′
   lengthened-all claim L l q z hz = record { below = λ x c. l q z hz .below x c (wanted (longer-below c)); attained = l q z hz .attained }
     where
       wanted : q < d .s → Wanted (replicate 128 1) q

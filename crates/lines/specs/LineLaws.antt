@@ -10,7 +10,8 @@ use Rattle.number.specs.Lent.{over}
 use Rattle.book.specs.Tables.{Tables}
 use Rattle.walk.specs.Answer.{Outcome, Answer, Unreached as Never, Long as Far, Sentence as Word}
 use Rattle.walk.specs.AnswerLaws.{answer-one}
-use Rattle.walk.specs.Cost.{limit}
+use Rattle.walk.specs.Scale.{plain}
+use Rattle.walk.specs.ShortestLaws.{cost-length}
 use Rattle.finder.specs.Finder.{Answered, found, sentence}
 use Rattle.finder.specs.declared.Found.{Found}
 use Rattle.finder.specs.declared.Found.the-variants.{Unreached, Long, Sentence, Refused}
@@ -37,7 +38,7 @@ words (Refused r) buffer = []
 abbrev pub Fitting : Found → List ℕ → Type 0
 Fitting Unreached buffer = Unit {0}
 Fitting Long buffer = Unit {0}
-Fitting (Sentence n) buffer = (n ≤ limit) × (n ≤ length buffer)
+Fitting (Sentence n) buffer = (n ≤ plain .limit) × (n ≤ length buffer)
 Fitting (Refused r) buffer = ⊥
 
 outcome-words : (o : Outcome) (buffer : List ℕ) → words (found o) (over (sentence o) buffer) ≡ told o
@@ -45,10 +46,10 @@ outcome-words Never buffer = refl
 outcome-words Far buffer = refl
 outcome-words (Word w) buffer = rw take-append-seam
 
-outcome-fits : (B : Tables) (s z : ℕ) (o : Outcome) (buffer : List ℕ) → Answer (λ a. a) B s z o → Fitting (found o) (over (sentence o) buffer)
+outcome-fits : (B : Tables) (s z : ℕ) (o : Outcome) (buffer : List ℕ) → Answer plain (λ a. a) B s z o → Fitting (found o) (over (sentence o) buffer)
 outcome-fits B s z Never buffer a = tt
 outcome-fits B s z Far buffer a = tt
-outcome-fits B s z (Word w) buffer a = (a .1, simp length-append (omega arith))
+outcome-fits B s z (Word w) buffer a = (omega (arith, a .1, cost-length w), simp length-append (omega arith))
 
 module _ {B : Tables} {s z : ℕ} {buffer left : List ℕ} {r : Found} where
   answered-words : (a : Answered B s z buffer r left) → words r left ≡ told (a .outcome)
@@ -67,7 +68,7 @@ module _ {B : Tables} {s z : ℕ} {buffer left : List ℕ} {r : Found} where
 pub line-one : {B : Tables} {s z at next next′ : ℕ} {lent left left′ : List ℕ} → Listed B s z lent at left next → Listed B s z lent at left′ next′
     → (left ≡ left′) × (next ≡ next′)
 line-one {B} {s} {z} {at} {lent} x y =
-    let same = answer-one (λ a. a) B s z (x .outcome) (y .outcome) (x .right) (y .right) in (
+    let same = answer-one plain (λ a. a) B s z (x .outcome) (y .outcome) (x .right) (y .right) in (
       x .put .stored ∙ ap (λ (o : Outcome). sets lent at (pairLine s z o)) same ∙ sym (y .put .stored),
       x .put .after ∙ ap (λ (o : Outcome). at + length (pairLine s z o)) same ∙ sym (y .put .after),
     )

@@ -7,7 +7,8 @@ use lib.ListN.{drop}
 use Rattle.book.specs.Tables.{Tables}
 use Rattle.book.specs.declared.Action.the-variants.{Shift, Reduce}
 use Rattle.walk.specs.Walk.{Walk}
-use Rattle.walk.specs.Cost.{unreached, plus, Attained}
+use Rattle.walk.specs.Scale.{Scale, unreached, shiftCost}
+use Rattle.walk.specs.Cost.{plus, Attained}
 
 -- w crosses the goto of state q under the nonterminal X, where z follows and a is the first terminal of w z: a walk of the length of a
 -- production of X, to a state that reduces it under z
@@ -24,44 +25,44 @@ pub record Crosses (B : Tables) (q X a z : ℕ) (w : List ℕ) : Type 0 where
 abbrev pub Claims : Type 0
 Claims = ℕ → ℕ → ℕ → ℕ → ℕ
 
--- Claimed B claim q a v z n q′: n transitions lead from q to q′ at the cost v, where z is the next terminal and a the first. A shift costs 1
--- and any terminal may follow it; a goto costs its claim for the terminals before and after it
-pub data Claimed (B : Tables) (claim : Claims) : ℕ → ℕ → ℕ → ℕ → ℕ → ℕ → Type 0 where
-  none : {q z : ℕ} → z < B .terminals → Claimed B claim q z 0 z 0 q
-  shifting : {q a v t n q₁ q₂ : ℕ} (z : ℕ) → Claimed B claim q a v t n q₁ → B .act q₁ t ≡ Shift q₂ → z < B .terminals
-      → Claimed B claim q a (plus v 1) z (suc n) q₂
-  crossing : {q a v b n q₁ q₂ : ℕ} (X z : ℕ) → Claimed B claim q a v b n q₁ → B .goto q₁ X ≡ suc q₂ → z < B .terminals
-      → Claimed B claim q a (plus v (claim q₁ X b z)) z (suc n) q₂
+-- Claimed σ B claim q a v z n q′: n transitions lead from q to q′ at the cost v, where z is the next terminal and a the first. A shift costs
+-- what its terminal does, and any terminal may follow it; a goto costs its claim for the terminals before and after it
+pub data Claimed (σ : Scale) (B : Tables) (claim : Claims) : ℕ → ℕ → ℕ → ℕ → ℕ → ℕ → Type 0 where
+  none : {q z : ℕ} → z < B .terminals → Claimed σ B claim q z 0 z 0 q
+  shifting : {q a v t n q₁ q₂ : ℕ} (z : ℕ) → Claimed σ B claim q a v t n q₁ → B .act q₁ t ≡ Shift q₂ → z < B .terminals
+      → Claimed σ B claim q a (plus σ v (shiftCost σ t)) z (suc n) q₂
+  crossing : {q a v b n q₁ q₂ : ℕ} (X z : ℕ) → Claimed σ B claim q a v b n q₁ → B .goto q₁ X ≡ suc q₂ → z < B .terminals
+      → Claimed σ B claim q a (plus σ v (claim q₁ X b z)) z (suc n) q₂
 
 -- the same for what is reached from any stack: by a claimed walk from its top, or by one to a reduction that pops the stack below the top
-pub data ClaimedGets (B : Tables) (claim : Claims) (s z : ℕ) : List ℕ → ℕ → ℕ → Type 0 where
-  arriving : {q a v n : ℕ} {st : List ℕ} → Claimed B claim q a v z n s → ClaimedGets B claim s z (q ∷ st) a v
-  popping : {q a v b x n q₁ p q₂ g : ℕ} {st st₂ : List ℕ} (k : ℕ) → Claimed B claim q a v b n q₁ → B .act q₁ b ≡ Reduce p → B .len p ≡ n + suc k
-      → drop k st ≡ q₂ ∷ st₂ → B .goto q₂ (B .lhs p) ≡ suc g → ClaimedGets B claim s z (g ∷ q₂ ∷ st₂) b x → ClaimedGets B claim s z (q ∷ st) a (plus v x)
+pub data ClaimedGets (σ : Scale) (B : Tables) (claim : Claims) (s z : ℕ) : List ℕ → ℕ → ℕ → Type 0 where
+  arriving : {q a v n : ℕ} {st : List ℕ} → Claimed σ B claim q a v z n s → ClaimedGets σ B claim s z (q ∷ st) a v
+  popping : {q a v b x n q₁ p q₂ g : ℕ} {st st₂ : List ℕ} (k : ℕ) → Claimed σ B claim q a v b n q₁ → B .act q₁ b ≡ Reduce p → B .len p ≡ n + suc k
+      → drop k st ≡ q₂ ∷ st₂ → B .goto q₂ (B .lhs p) ≡ suc g → ClaimedGets σ B claim s z (g ∷ q₂ ∷ st₂) b x → ClaimedGets σ B claim s z (q ∷ st) a (plus σ v x)
 
 -- no claim is more than what the claims make of a production for it
-pub record Closed (B : Tables) (claim : Claims) : Type 0 where
-  pub bound : {q a v z p q₂ g : ℕ} → Claimed B claim q a v z (B .len p) q₂ → B .act q₂ z ≡ Reduce p → B .goto q (B .lhs p) ≡ suc g
+pub record Closed (σ : Scale) (B : Tables) (claim : Claims) : Type 0 where
+  pub bound : {q a v z p q₂ g : ℕ} → Claimed σ B claim q a v z (B .len p) q₂ → B .act q₂ z ≡ Reduce p → B .goto q (B .lhs p) ≡ suc g
       → claim q (B .lhs p) a z ≤ v
 
 -- every claim that is not unreached is what some crossing costs
-pub record Witnessed (B : Tables) (claim : Claims) : Type 0 where
-  pub witness : (q X a z : ℕ) {g : ℕ} → a < B .terminals → z < B .terminals → B .goto q X ≡ suc g → Attained (Crosses B q X a z) (claim q X a z)
+pub record Witnessed (σ : Scale) (B : Tables) (claim : Claims) : Type 0 where
+  pub witness : (q X a z : ℕ) {g : ℕ} → a < B .terminals → z < B .terminals → B .goto q X ≡ suc g → Attained σ (Crosses B q X a z) (claim q X a z)
 
 -- v is the least of the costs in P, or unreached
-pub record Least (P : ℕ → Type 0) (v : ℕ) : Type 0 where
+pub record Least (σ : Scale) (P : ℕ → Type 0) (v : ℕ) : Type 0 where
   pub below : (x : ℕ) → P x → v ≤ x
-  pub attained : (v ≡ unreached) ⊎ P v
+  pub attained : (v ≡ unreached σ) ⊎ P v
 
 -- v is that as far as C says: no cost in P of which C holds is less
-pub record LeastWhere (C P : ℕ → Type 0) (v : ℕ) : Type 0 where
+pub record LeastWhere (σ : Scale) (C P : ℕ → Type 0) (v : ℕ) : Type 0 where
   pub below : (x : ℕ) → P x → C x → v ≤ x
-  pub attained : (v ≡ unreached) ⊎ P v
+  pub attained : (v ≡ unreached σ) ⊎ P v
 
 -- a claimed walk from the start to state s with z next, of any number of transitions
-abbrev pub Arrival : Tables → Claims → ℕ → ℕ → ℕ → Type 0
-Arrival B claim s z v = (a n : ℕ) × Claimed B claim 0 a v z n s
+abbrev pub Arrival : Scale → Tables → Claims → ℕ → ℕ → ℕ → Type 0
+Arrival σ B claim s z v = (a n : ℕ) × Claimed σ B claim 0 a v z n s
 
 -- a claimed walk from q with first terminal a to one of the goal pairs
-abbrev pub Onward : Tables → Claims → (ℕ → ℕ → Type 0) → ℕ → ℕ → ℕ → Type 0
-Onward B claim Goal q a v = (n s z : ℕ) × Goal s z × Claimed B claim q a v z n s
+abbrev pub Onward : Scale → Tables → Claims → (ℕ → ℕ → Type 0) → ℕ → ℕ → ℕ → Type 0
+Onward σ B claim Goal q a v = (n s z : ℕ) × Goal s z × Claimed σ B claim q a v z n s

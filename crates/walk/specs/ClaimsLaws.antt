@@ -11,128 +11,129 @@ use Rattle.book.specs.declared.Action.the-variants.{Shift, Reduce}
 use Rattle.machine.specs.Machine.{Reaches}
 use Rattle.walk.specs.Walk.{Walk, here, shifted, crossed, first, Gets, arrives, pops}
 use Rattle.walk.specs.WalkLaws.{Opens, empties, walk-begins, walk-terminal, gets-terminal, reaches-walk, walk-reaches}
-use Rattle.walk.specs.Cost.{cost, unreached, cap, plus, Attained, Exact}
+use Rattle.walk.specs.Scale.{Scale, unreached, cap, shiftCost}
+use Rattle.walk.specs.Cost.{cost, plus, Attained, Exact}
 use Rattle.walk.specs.CostLaws.{plus-bounded, plus-zero, zero-plus, plus-comm, plus-assoc, plus-cost-le, attained-map, attained-plus}
 use Rattle.walk.specs.Claims.{Crosses, Claims, Claimed, none, shifting, crossing, Closed, Witnessed, Least, Arrival, Onward, ClaimedGets, arriving, popping}
 
 -- words that match claimed costs, one way and the other
-below-then-exact : {K : ℕ → Type 0} {P : List ℕ → Type 0} {d : ℕ} → ((w : List ℕ) → P w → (v : ℕ) × K v × (v ≤ cap (cost w)))
-    → ((v : ℕ) → K v → Attained P v) → Least K d → Exact P d
+below-then-exact : {σ : Scale} {K : ℕ → Type 0} {P : List ℕ → Type 0} {d : ℕ} → ((w : List ℕ) → P w → (v : ℕ) × K v × (v ≤ cap σ (cost σ w)))
+    → ((v : ℕ) → K v → Attained σ P v) → Least σ K d → Exact σ P d
 below-then-exact {d} f g l = record {
   least = λ w p. let (v, k, h) = f w p in le-trans (l .below v k) h;
   attained = ⊎-elim inl (g d) (l .attained);
 }
 
 -- what a transition, and a reduction, make of the cost of some walk is the cost of some walk, and of some crossing
-module _ {B : Tables} where
-  pub attained-shift : {q a v t n q₁ q₂ : ℕ} (z : ℕ) → Attained (λ w. Walk B q a w t n q₁) v → B .act q₁ t ≡ Shift q₂
-      → Attained (λ w. Walk B q a w z (suc n) q₂) (plus v 1)
-  attained-shift {t} z x e = attained-plus {Q = λ y. y ≡ t ∷ []} (λ w y r i. rw i (shifted z r e)) x (inr (t ∷ [], refl, refl))
+module _ (σ : Scale) {B : Tables} where
+  pub attained-shift : {q a v t n q₁ q₂ : ℕ} (z : ℕ) → Attained σ (λ w. Walk B q a w t n q₁) v → B .act q₁ t ≡ Shift q₂
+      → Attained σ (λ w. Walk B q a w z (suc n) q₂) (plus σ v (shiftCost σ t))
+  attained-shift {t} z x e = attained-plus σ {Q = λ y. y ≡ t ∷ []} (λ w y r i. rw i (shifted z r e)) x (inr (t ∷ [], refl, omega arith))
 
-  pub attained-cross : {q a v b n q₁ X x z g : ℕ} → Attained (λ w. Walk B q a w b n q₁) v → Attained (Crosses B q₁ X b z) x → B .goto q₁ X ≡ suc g
-      → Attained (λ w. Walk B q a w z (suc n) g) (plus v x)
-  attained-cross a b g = attained-plus (λ w y r c. crossed r (c .walk) (c .action) refl (rw (c .left) g)) a b
+  pub attained-cross : {q a v b n q₁ X x z g : ℕ} → Attained σ (λ w. Walk B q a w b n q₁) v → Attained σ (Crosses B q₁ X b z) x → B .goto q₁ X ≡ suc g
+      → Attained σ (λ w. Walk B q a w z (suc n) g) (plus σ v x)
+  attained-cross a b g = attained-plus σ (λ w y r c. crossed r (c .walk) (c .action) refl (rw (c .left) g)) a b
 
-  pub attained-crossing : {q a v z p q₂ g : ℕ} → Attained (λ w. Walk B q a w z (B .len p) q₂) v → B .act q₂ z ≡ Reduce p → B .goto q (B .lhs p) ≡ suc g
-      → Attained (Crosses B q (B .lhs p) a z) v
+  pub attained-crossing : {q a v z p q₂ g : ℕ} → Attained σ (λ w. Walk B q a w z (B .len p) q₂) v → B .act q₂ z ≡ Reduce p → B .goto q (B .lhs p) ≡ suc g
+      → Attained σ (Crosses B q (B .lhs p) a z) v
   attained-crossing {p} {q₂} {g} x e i =
-      attained-map (λ w r. record { production = p; last = q₂; target = g; walk = r; action = e; left = refl; transition = i }) x
+      attained-map σ (λ w r. record { production = p; last = q₂; target = g; walk = r; action = e; left = refl; transition = i }) x
 
 -- how a claimed walk begins
-pub data Start (B : Tables) (claim : Claims) (q a : ℕ) : ℕ → ℕ → ℕ → ℕ → Type 0 where
-  nowhere : Start B claim q a 0 a 0 q
-  shift-first : {q₁ b v z n q′ : ℕ} → B .act q a ≡ Shift q₁ → Claimed B claim q₁ b v z n q′ → Start B claim q a (plus 1 v) z (suc n) q′
-  goto-first : {q₁ b v z n q′ : ℕ} (X : ℕ) → B .goto q X ≡ suc q₁ → Claimed B claim q₁ b v z n q′ → Start B claim q a (plus (claim q X a b) v) z (suc n) q′
+pub data Start (σ : Scale) (B : Tables) (claim : Claims) (q a : ℕ) : ℕ → ℕ → ℕ → ℕ → Type 0 where
+  nowhere : Start σ B claim q a 0 a 0 q
+  shift-first : {q₁ b v z n q′ : ℕ} → B .act q a ≡ Shift q₁ → Claimed σ B claim q₁ b v z n q′ → Start σ B claim q a (plus σ (shiftCost σ a) v) z (suc n) q′
+  goto-first : {q₁ b v z n q′ : ℕ} (X : ℕ) → B .goto q X ≡ suc q₁ → Claimed σ B claim q₁ b v z n q′ → Start σ B claim q a (plus σ (claim q X a b) v) z (suc n) q′
 
 one-add : (n : ℕ) → 1 + n ≡ suc n
 one-add n = omega arith
 
-module _ {B : Tables} {claim : Claims} where
+module _ {σ : Scale} {B : Tables} {claim : Claims} where
   -- a claimed walk has a terminal next, costs at most unreached, and can be followed by another
-  pub claimed-next : {q a v z n q′ : ℕ} → Claimed B claim q a v z n q′ → z < B .terminals
+  pub claimed-next : {q a v z n q′ : ℕ} → Claimed σ B claim q a v z n q′ → z < B .terminals
   claimed-next (none h) = h
   claimed-next (shifting z c e h) = h
   claimed-next (crossing X z c g h) = h
 
-  pub claimed-terminal : {q a v z n q′ : ℕ} → Claimed B claim q a v z n q′ → a < B .terminals
+  pub claimed-terminal : {q a v z n q′ : ℕ} → Claimed σ B claim q a v z n q′ → a < B .terminals
   claimed-terminal (none h) = h
   claimed-terminal (shifting z c e h) = claimed-terminal c
   claimed-terminal (crossing X z c g h) = claimed-terminal c
 
-  pub claimed-bounded : {q a v z n q′ : ℕ} → Claimed B claim q a v z n q′ → v ≤ unreached
+  pub claimed-bounded : {q a v z n q′ : ℕ} → Claimed σ B claim q a v z n q′ → v ≤ unreached σ
   claimed-bounded (none h) = omega arith
-  claimed-bounded (shifting z c e h) = plus-bounded _ _
-  claimed-bounded (crossing X z c g h) = plus-bounded _ _
+  claimed-bounded (shifting z c e h) = plus-bounded σ _ _
+  claimed-bounded (crossing X z c g h) = plus-bounded σ _ _
 
-  pub claimed-append : {q a v b n q₁ x z m q₂ : ℕ} → Claimed B claim q a v b n q₁ → Claimed B claim q₁ b x z m q₂ → Claimed B claim q a (plus v x) z (n + m) q₂
-  claimed-append {v} c (none h) = rw (plus-zero v (claimed-bounded c), add-zero) c
+  pub claimed-append : {q a v b n q₁ x z m q₂ : ℕ} → Claimed σ B claim q a v b n q₁ → Claimed σ B claim q₁ b x z m q₂ → Claimed σ B claim q a (plus σ v x) z (n + m) q₂
+  claimed-append {v} c (none h) = rw (plus-zero σ v (claimed-bounded c), add-zero) c
   claimed-append c (shifting z d e h) = rw (← plus-assoc, add-suc) (shifting z (claimed-append c d) e h)
   claimed-append c (crossing X z d g h) = rw (← plus-assoc, add-suc) (crossing X z (claimed-append c d) g h)
 
   -- one transition in front
-  pub claimed-shift : {q a q₁ b v z n q′ : ℕ} → B .act q a ≡ Shift q₁ → a < B .terminals → Claimed B claim q₁ b v z n q′ → Claimed B claim q a (plus 1 v) z (suc n) q′
-  claimed-shift {b} {n} e h c =
-      let one : plus 0 1 ≡ 1 = zero-plus 1 (omega arith) in
+  pub claimed-shift : {q a q₁ b v z n q′ : ℕ} → B .act q a ≡ Shift q₁ → a < B .terminals → Claimed σ B claim q₁ b v z n q′ → Claimed σ B claim q a (plus σ (shiftCost σ a) v) z (suc n) q′
+  claimed-shift {a} {b} {n} e h c =
+      let one : plus σ 0 (shiftCost σ a) ≡ shiftCost σ a = zero-plus σ (shiftCost σ a) (omega arith) in
       rw (← one, ← one-add n) (claimed-append (shifting b (none h) e (claimed-terminal c)) c)
 
-  pub claimed-goto : {q a q₁ b v z n q′ : ℕ} (X : ℕ) → B .goto q X ≡ suc q₁ → a < B .terminals → Claimed B claim q₁ b v z n q′
-      → Claimed B claim q a (plus (claim q X a b) v) z (suc n) q′
+  pub claimed-goto : {q a q₁ b v z n q′ : ℕ} (X : ℕ) → B .goto q X ≡ suc q₁ → a < B .terminals → Claimed σ B claim q₁ b v z n q′
+      → Claimed σ B claim q a (plus σ (claim q X a b) v) z (suc n) q′
   claimed-goto {q} {a} {b} {v} {n} X g h c =
       let x = claim q X a b in
-      let e : plus (plus 0 x) v ≡ plus x v = rw plus-assoc (zero-plus (plus x v) (plus-bounded x v)) in
+      let e : plus σ (plus σ 0 x) v ≡ plus σ x v = rw plus-assoc (zero-plus σ (plus σ x v) (plus-bounded σ x v)) in
       rw (← e, ← one-add n) (claimed-append (crossing X b (none h) g (claimed-terminal c)) c)
 
   -- every claimed walk begins so, or is none; the last transition of one is its constructor
-  start-shift : {q a v t z n q₁ q₂ : ℕ} → Start B claim q a v t n q₁ → B .act q₁ t ≡ Shift q₂ → z < B .terminals → Start B claim q a (plus v 1) z (suc n) q₂
-  start-shift nowhere e h = rw (plus-comm 0 1) (shift-first e (none h))
+  start-shift : {q a v t z n q₁ q₂ : ℕ} → Start σ B claim q a v t n q₁ → B .act q₁ t ≡ Shift q₂ → z < B .terminals → Start σ B claim q a (plus σ v (shiftCost σ t)) z (suc n) q₂
+  start-shift {a} nowhere e h = rw (plus-comm σ 0 (shiftCost σ a)) (shift-first e (none h))
   start-shift {z} (shift-first f c) e h = rw plus-assoc (shift-first f (shifting z c e h))
   start-shift {z} (goto-first X f c) e h = rw plus-assoc (goto-first X f (shifting z c e h))
 
-  start-goto : {q a v b z n q₁ q₂ : ℕ} (X : ℕ) → Start B claim q a v b n q₁ → B .goto q₁ X ≡ suc q₂ → z < B .terminals
-      → Start B claim q a (plus v (claim q₁ X b z)) z (suc n) q₂
-  start-goto {q} {a} {z} X nowhere g h = rw (plus-comm 0 (claim q X a z)) (goto-first X g (none h))
+  start-goto : {q a v b z n q₁ q₂ : ℕ} (X : ℕ) → Start σ B claim q a v b n q₁ → B .goto q₁ X ≡ suc q₂ → z < B .terminals
+      → Start σ B claim q a (plus σ v (claim q₁ X b z)) z (suc n) q₂
+  start-goto {q} {a} {z} X nowhere g h = rw (plus-comm σ 0 (claim q X a z)) (goto-first X g (none h))
   start-goto {z} X (shift-first f c) g h = rw plus-assoc (shift-first f (crossing X z c g h))
   start-goto {z} X (goto-first Y f c) g h = rw plus-assoc (goto-first Y f (crossing X z c g h))
 
-  pub claimed-start : {q a v z n q′ : ℕ} → Claimed B claim q a v z n q′ → Start B claim q a v z n q′
+  pub claimed-start : {q a v z n q′ : ℕ} → Claimed σ B claim q a v z n q′ → Start σ B claim q a v z n q′
   claimed-start (none h) = nowhere
   claimed-start (shifting z c e h) = start-shift (claimed-start c) e h
   claimed-start (crossing X z c g h) = start-goto X (claimed-start c) g h
 
-  bound-at : {q a v z p m q₂ g : ℕ} → Closed B claim → B .len p ≡ m → Claimed B claim q a v z m q₂ → B .act q₂ z ≡ Reduce p → B .goto q (B .lhs p) ≡ suc g
+  bound-at : {q a v z p m q₂ g : ℕ} → Closed σ B claim → B .len p ≡ m → Claimed σ B claim q a v z m q₂ → B .act q₂ z ≡ Reduce p → B .goto q (B .lhs p) ≡ suc g
       → claim q (B .lhs p) a z ≤ v
   bound-at k l c e g = k .bound (rw (← l) at c) e g
 
   -- (i) closed claims are at most the true costs
-  pub closed-below : {q a z n q′ : ℕ} {w : List ℕ} → InRange B → Closed B claim → z < B .terminals → Walk B q a w z n q′
-      → (v : ℕ) × Claimed B claim q a v z n q′ × (v ≤ cap (cost w))
+  pub closed-below : {q a z n q′ : ℕ} {w : List ℕ} → InRange B → Closed σ B claim → z < B .terminals → Walk B q a w z n q′
+      → (v : ℕ) × Claimed σ B claim q a v z n q′ × (v ≤ cap σ (cost σ w))
   closed-below i k h here = (0, none h, omega arith)
   closed-below i k h (shifted {t} {q₁} {q₂} {w} z r e) =
       let (v, c, l) = closed-below i k (i .shifts q₁ t q₂ e .2) r in
-      (plus v 1, shifting z c e h, plus-cost-le w (t ∷ []) l (omega arith))
+      (plus σ v (shiftCost σ t), shifting z c e h, plus-cost-le σ w (t ∷ []) l (omega arith))
   closed-below i k h (crossed {b} {z} {q₁} {p} {w} {v} r r′ e l g) =
       let (x, c, f) = closed-below i k (walk-terminal i h r′) r in
       let (y, d, j) = closed-below i k h r′ in
-      (plus x (claim q₁ (B .lhs p) b z), crossing (B .lhs p) z c g h, plus-cost-le w v f (le-trans (bound-at k l d e g) j))
+      (plus σ x (claim q₁ (B .lhs p) b z), crossing (B .lhs p) z c g h, plus-cost-le σ w v f (le-trans (bound-at k l d e g) j))
 
   -- (ii) witnessed claims are true costs
-  pub witnessed-above : {q a v z n q′ : ℕ} → Witnessed B claim → Claimed B claim q a v z n q′ → Attained (λ w. Walk B q a w z n q′) v
-  witnessed-above k (none h) = inr ([], here, refl)
-  witnessed-above k (shifting z c e h) = attained-shift z (witnessed-above k c) e
-  witnessed-above k (crossing {b} {q₁} X z c g h) = attained-cross (witnessed-above k c) (k .witness q₁ X b z (claimed-next c) h g) g
+  pub witnessed-above : {q a v z n q′ : ℕ} → Witnessed σ B claim → Claimed σ B claim q a v z n q′ → Attained σ (λ w. Walk B q a w z n q′) v
+  witnessed-above k (none h) = inr ([], here, omega arith)
+  witnessed-above k (shifting z c e h) = attained-shift σ z (witnessed-above k c) e
+  witnessed-above k (crossing {b} {q₁} X z c g h) = attained-cross σ (witnessed-above k c) (k .witness q₁ X b z (claimed-next c) h g) g
 
   -- where the action neither shifts nor reduces an empty production, nothing but the empty walk is claimed below unreached
-  pub claimed-begins : {q a v z n q′ : ℕ} → Witnessed B claim → Claimed B claim q a v z n q′ → ((n ≡ 0) × (q ≡ q′) × (a ≡ z)) ⊎ ((v ≡ unreached) ⊎ Opens B q a)
+  pub claimed-begins : {q a v z n q′ : ℕ} → Witnessed σ B claim → Claimed σ B claim q a v z n q′ → ((n ≡ 0) × (q ≡ q′) × (a ≡ z)) ⊎ ((v ≡ unreached σ) ⊎ Opens B q a)
   claimed-begins k c = ⊎-elim (λ h. inr (inl h)) (λ (w, r, h). ⊎-map (λ x. x) inr (walk-begins r)) (witnessed-above k c)
 
   -- so a pass may leave out such a row (q, a): its claims are unreached, and closed
-  pub unopened-unreached : {q X a z g : ℕ} → Witnessed B claim → ¬ Opens B q a → a < B .terminals → z < B .terminals → B .goto q X ≡ suc g → claim q X a z ≡ unreached
+  pub unopened-unreached : {q X a z g : ℕ} → Witnessed σ B claim → ¬ Opens B q a → a < B .terminals → z < B .terminals → B .goto q X ≡ suc g → claim q X a z ≡ unreached σ
   unopened-unreached {q} {X} {a} {z} k o ha hz g = ⊎-elim
       (λ e. e)
       (λ (w, x, e). absurd (o (⊎-elim (λ (i, j, l). rw (j, l) (empties (x .action) i)) (λ y. y) (walk-begins (x .walk)))))
       (k .witness q X a z ha hz g)
 
-  pub unopened-closed : {q a v z p q₂ g : ℕ} → Witnessed B claim → ¬ Opens B q a → Claimed B claim q a v z (B .len p) q₂ → B .act q₂ z ≡ Reduce p
+  pub unopened-closed : {q a v z p q₂ g : ℕ} → Witnessed σ B claim → ¬ Opens B q a → Claimed σ B claim q a v z (B .len p) q₂ → B .act q₂ z ≡ Reduce p
       → B .goto q (B .lhs p) ≡ suc g → claim q (B .lhs p) a z ≤ v
   unopened-closed k o c e g =
       let u = unopened-unreached k o (claimed-terminal c) (claimed-next c) g in
@@ -142,49 +143,49 @@ module _ {B : Tables} {claim : Claims} where
       (claimed-begins k c)
 
   -- the same two for what is reached from any stack
-  pub closed-gets-below : {s z a : ℕ} {st w : List ℕ} → InRange B → Closed B claim → z < B .terminals → Gets B s z st a w
-      → (v : ℕ) × ClaimedGets B claim s z st a v × (v ≤ cap (cost w))
+  pub closed-gets-below : {s z a : ℕ} {st w : List ℕ} → InRange B → Closed σ B claim → z < B .terminals → Gets B s z st a w
+      → (v : ℕ) × ClaimedGets σ B claim s z st a v × (v ≤ cap σ (cost σ w))
   closed-gets-below i k h (arrives r) = let (v, c, l) = closed-below i k h r in (v, arriving c, l)
   closed-gets-below i k h (pops {w} {v} m r e f d g c) =
       let (x, a, j) = closed-below i k (gets-terminal i h c) r in
       let (y, b, l) = closed-gets-below i k h c in
-      (plus x y, popping m a e f d g b, plus-cost-le w v j l)
+      (plus σ x y, popping m a e f d g b, plus-cost-le σ w v j l)
 
-  pub witnessed-gets-above : {s z a v : ℕ} {st : List ℕ} → Witnessed B claim → ClaimedGets B claim s z st a v → Attained (Gets B s z st a) v
-  witnessed-gets-above k (arriving c) = attained-map (λ w r. arrives r) (witnessed-above k c)
-  witnessed-gets-above k (popping m c e f d g b) = attained-plus (λ w u r t. pops m r e f d g t) (witnessed-above k c) (witnessed-gets-above k b)
+  pub witnessed-gets-above : {s z a v : ℕ} {st : List ℕ} → Witnessed σ B claim → ClaimedGets σ B claim s z st a v → Attained σ (Gets B s z st a) v
+  witnessed-gets-above k (arriving c) = attained-map σ (λ w r. arrives r) (witnessed-above k c)
+  witnessed-gets-above k (popping m c e f d g b) = attained-plus σ (λ w u r t. pops m r e f d g t) (witnessed-above k c) (witnessed-gets-above k b)
 
-module _ {B : Tables} {claim : Claims} (i : InRange B) (c : Closed B claim) where
+module _ {σ : Scale} {B : Tables} {claim : Claims} (i : InRange B) (c : Closed σ B claim) where
   -- no crossing costs less than its claim
-  pub claim-least : {q X a z : ℕ} {w : List ℕ} → z < B .terminals → Crosses B q X a z w → claim q X a z ≤ cap (cost w)
+  pub claim-least : {q X a z : ℕ} {w : List ℕ} → z < B .terminals → Crosses B q X a z w → claim q X a z ≤ cap σ (cost σ w)
   claim-least h x =
       let (v, d, l) = closed-below i c h (x .walk) in
       le-trans (rw (x .left) at (c .bound {g = x .target} d (x .action) (rw (x .left) (x .transition)))) l
 
-  module _ (k : Witnessed B claim) where
+  module _ (k : Witnessed σ B claim) where
     -- (iii) closed and witnessed claims are exact
-    pub claim-exact : {q X a z g : ℕ} → a < B .terminals → z < B .terminals → B .goto q X ≡ suc g → Exact (Crosses B q X a z) (claim q X a z)
+    pub claim-exact : {q X a z g : ℕ} → a < B .terminals → z < B .terminals → B .goto q X ≡ suc g → Exact σ (Crosses B q X a z) (claim q X a z)
     claim-exact {q} {X} {a} {z} ha hz g = record { least = λ w x. claim-least hz x; attained = k .witness q X a z ha hz g }
 
     -- (iv) and so is the least over the claimed walks of n transitions
-    pub layer-exact : {q a z n q′ d : ℕ} → z < B .terminals → Least (λ v. Claimed B claim q a v z n q′) d → Exact (λ w. Walk B q a w z n q′) d
+    pub layer-exact : {q a z n q′ d : ℕ} → z < B .terminals → Least σ (λ v. Claimed σ B claim q a v z n q′) d → Exact σ (λ w. Walk B q a w z n q′) d
     layer-exact h l = below-then-exact (λ w r. closed-below i c h r) (λ v r. witnessed-above k r) l
 
     -- (v) the least over the claimed walks from the start
-    pub start-exact : {s z d : ℕ} → z < B .terminals → Least (Arrival B claim s z) d → Exact (λ w. Reaches B w z s) d
+    pub start-exact : {s z d : ℕ} → z < B .terminals → Least σ (Arrival σ B claim s z) d → Exact σ (λ w. Reaches B w z s) d
     start-exact {s} {z} h l = below-then-exact
         (λ w r. let (n, t) = reaches-walk r in let (v, x, j) = closed-below i c h t in (v, (first w z, n, x), j))
-        (λ v (a, n, r). attained-map (λ w t. walk-reaches i t) (witnessed-above k r))
+        (λ v (a, n, r). attained-map σ (λ w t. walk-reaches i t) (witnessed-above k r))
         l
 
     -- (vi) the least over the claimed walks to a set of goal pairs
-    pub goal-exact : {Goal : ℕ → ℕ → Type 0} {q a d : ℕ} → ((s z : ℕ) → Goal s z → z < B .terminals) → Least (Onward B claim Goal q a) d
-        → Exact (λ w. (n s z : ℕ) × Goal s z × Walk B q a w z n s) d
+    pub goal-exact : {Goal : ℕ → ℕ → Type 0} {q a d : ℕ} → ((s z : ℕ) → Goal s z → z < B .terminals) → Least σ (Onward σ B claim Goal q a) d
+        → Exact σ (λ w. (n s z : ℕ) × Goal s z × Walk B q a w z n s) d
     goal-exact t l = below-then-exact
         (λ w (n, s, z, h, r). let (v, x, j) = closed-below i c (t s z h) r in (v, (n, s, z, h, x), j))
-        (λ v (n, s, z, h, r). attained-map (λ w x. (n, s, z, h, x)) (witnessed-above k r))
+        (λ v (n, s, z, h, r). attained-map σ (λ w x. (n, s, z, h, x)) (witnessed-above k r))
         l
 
     -- the least over what is claimed from a stack
-    pub gets-exact : {s z a d : ℕ} {st : List ℕ} → z < B .terminals → Least (ClaimedGets B claim s z st a) d → Exact (Gets B s z st a) d
+    pub gets-exact : {s z a d : ℕ} {st : List ℕ} → z < B .terminals → Least σ (ClaimedGets σ B claim s z st a) d → Exact σ (Gets B s z st a) d
     gets-exact h l = below-then-exact (λ w r. closed-gets-below i c h r) (λ v r. witnessed-gets-above k r) l

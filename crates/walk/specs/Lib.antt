@@ -1,5 +1,6 @@
 pub mod Walk
 pub mod WalkLaws
+pub mod Scale
 pub mod Cost
 pub mod CostLaws
 pub mod Claims
@@ -10,6 +11,10 @@ pub mod Order
 pub mod OrderLaws
 pub mod Answer
 pub mod AnswerLaws
+pub mod Shortest
+pub mod ShortestLaws
+pub mod Cheapest
+pub mod CheapestLaws
 pub mod ChoiceLaws
 pub mod ShiftLaws
 pub mod Stars

@@ -21,9 +21,11 @@ use Rattle.machine.specs.Machine.{Move, accepts, fails, breaks, shifts, reduces
 use Rattle.machine.specs.MachineLaws.{clash}
 use Rattle.walk.specs.Walk.{Walk, here, shifted, crossed}
 use Rattle.walk.specs.WalkLaws.{reaches-walk}
-use Rattle.walk.specs.Order.{Before, differs, agrees, Better}
-use Rattle.walk.specs.Cost.{limit}
+use Rattle.walk.specs.Scale.{plain}
+use Rattle.walk.specs.Order.{Before, differs, agrees}
 use Rattle.walk.specs.Answer.{Unreached, Long, Sentence, Answer}
+use Rattle.walk.specs.Shortest.{Shorter, Shortest}
+use Rattle.walk.specs.ShortestLaws.{answer-shortest}
 use Rattle.walk.specs.Stars.{Line, number, pair, bracket, double, stars, Holds, All}
 
 both : (a b : Bool) → (a && b) ≡ true → (a ≡ true) × (b ≡ true)
@@ -187,10 +189,10 @@ module _ (B : Tables) (s z : ℕ) where
   -- w reaches the pair, no shorter word does, and none of its length that is earlier
   sentence? : List ℕ → Bool
   sentence? w =
-      terminals? (B .terminals) w && (leb (length w) limit && (hits B s z 64 (0 ∷ []) (w ++ (z ∷ []))
+      terminals? (B .terminals) w && (leb (length w) 1000 && (hits B s z 64 (0 ∷ []) (w ++ (z ∷ []))
       && (upto (length w) (λ n. every (B .terminals) n missed) && every (B .terminals) (length w) (λ v. later w v || missed v))))
 
-  sentence-answer : (w : List ℕ) → sentence? w ≡ true → Answer (λ a. a) B s z (Sentence w)
+  sentence-answer : (w : List ℕ) → sentence? w ≡ true → Shortest (λ a. a) B s z (Sentence w)
   unfolding sentence?
   sentence-answer w e =
       let (a, e₁) = both _ _ e in
@@ -198,10 +200,10 @@ module _ (B : Tables) (s z : ℕ) where
       let (c, e₃) = both _ _ e₂ in
       let (d, f) = both _ _ e₃ in
       let (below, r) = hits-hit B s z 64 (0 ∷ []) (w ++ (z ∷ [])) c in
-      (record { terminals = terminals-all w a; below = below; run = r }, leb-true (length w) limit b, λ v x n. best d f v x n (decLt (length v) (length w)) (decLt (length w) (length v)))
+      (record { terminals = terminals-all w a; below = below; run = r }, leb-true (length w) 1000 b, λ v x n. best d f v x n (decLt (length v) (length w)) (decLt (length w) (length v)))
     where
       best : upto (length w) (λ n. every (B .terminals) n missed) ≡ true → every (B .terminals) (length w) (λ v. later w v || missed v) ≡ true
-          → (v : List ℕ) → Reaches B v z s → v ≢ w → Dec (length v < length w) → Dec (length w < length v) → Better (λ a. a) w v
+          → (v : List ℕ) → Reaches B v z s → v ≢ w → Dec (length v < length w) → Dec (length w < length v) → Shorter (λ a. a) w v
       best d f v x n (yes h) i = absurd (missed-unreached (every-all (length v) missed (upto-all (length w) _ d (length v) h) (x .terminals) refl) x)
       best d f v x n (no h) (yes i) = inl i
       best d f v x n (no h) (no i) =
@@ -257,7 +259,7 @@ no-walk cells h i j here = h refl
 no-walk {s} cells h i j (shifted {t} {q₁} z r f) = no-shift cells s j q₁ t f
 no-walk {z} cells h i j (crossed {q₂} {p} r r′ f l g) = no-reduce cells z i q₂ p f
 
-unreached-answer : (cells : List ℕ) (s z : ℕ) → unreached? (tablesOf cells) s z ≡ true → Answer (λ a. a) (tablesOf cells) s z Unreached
+unreached-answer : (cells : List ℕ) (s z : ℕ) → unreached? (tablesOf cells) s z ≡ true → Answer plain (λ a. a) (tablesOf cells) s z Unreached
 unfolding unreached?
 unreached-answer cells s z e w r =
     let B = tablesOf cells in
@@ -295,7 +297,7 @@ unfolding right?
 right-holds (number bytes r) e = same (numberAt bytes 0) r e
 right-holds (pair cells s z Unreached) e = unreached-answer cells s z e
 right-holds (pair cells s z Long) e = absurd (false≢true e)
-right-holds (pair cells s z (Sentence w)) e = sentence-answer (tablesOf cells) s z w e
+right-holds (pair cells s z (Sentence w)) e = answer-shortest (λ a. a) (tablesOf cells) s z (Sentence w) .1 (sentence-answer (tablesOf cells) s z w e)
 
 all-right? : List Line → Bool
 all-right? [] = true

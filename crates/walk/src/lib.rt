@@ -1,6 +1,7 @@
 // Arithmetic of capped costs.
 ghost use mathlib.Core.Path.{_≡_};
 ghost use Prim.Native.Nat.{min};
+ghost use Rattle.walk.specs.Scale.{plain};
 ghost use Rattle.walk.specs.Cost.{plus};
 
 // The most symbols that a sentence can have.
@@ -21,7 +22,7 @@ pub fn least(x: u16, y: u16) -> u16
 
 // The capped sum of two costs.
 pub fn add(x: u16, y: u16) -> u16
-    ensures { λ r. ⌜ r ≡ plus x y ⌝ }
+    ensures { λ r. ⌜ r ≡ plus plain x y ⌝ }
 {
     if x >= UNREACHED {
         return UNREACHED;
