@@ -6,11 +6,6 @@ use lib.ListN.{length}
 use borrow.Author.Needs.{needs}
 use Rattle.distances_test.proofs.books.Statement.{statement}
 use Rattle.distances_test.proofs.books.Tie as tie
-use Rattle.distances_test.proofs.books.Reads as reads
-use Rattle.distances_test.proofs.books.Lts as lts
-use Rattle.distances_test.proofs.show.Reads as show-reads
-use Rattle.trial.proofs.part_at.Reads as part-at-reads
-use Rattle.trial.proofs.line.Reads as line-reads
 
 abbrev Inv-loop : tie.InvT-loop
 Inv-loop bytes cells₀ at₀ t7 cells at = (length cells ≡ length cells₀)
@@ -21,15 +16,6 @@ abbrev μ-loop : tie.MeasureT-loop
 loop-holds : tie.Need-loop-holds Inv-loop μ-loop
 loop-holds c = refl
 
-slice-aggregate-line : tie.Need-slice-aggregate-line Inv-loop μ-loop
-slice-aggregate-line c = search needs
-
-line-requires : tie.Need-line-requires Inv-loop μ-loop
-line-requires c κs = search needs
-
-part-at-requires : tie.Need-part-at-requires Inv-loop μ-loop
-part-at-requires c κs = search needs
-
 sub-show : tie.Need-sub-show Inv-loop μ-loop
 sub-show c = omega (arith, c .part-at .ensures)
 
@@ -39,20 +25,11 @@ part-show-start c = omega (arith, c .part-at .ensures)
 part-show-end : tie.Need-part-show-end Inv-loop μ-loop
 part-show-end c = omega (arith, c .part-at .ensures)
 
-show-requires : tie.Need-show-requires Inv-loop μ-loop
-show-requires c κs = search needs
-
 loop-less : tie.Need-loop-less Inv-loop μ-loop
 loop-less c = omega (arith, c .before .before .before .before .before .part-at .ensures)
 
-loop-again : tie.Need-loop-again Inv-loop μ-loop
-loop-again c = search needs
-
 same-length : tie.Need-same-length Inv-loop μ-loop
 same-length c = c .before .loop .inv
-
-returns : tie.Need-returns Inv-loop μ-loop
-returns c = search needs
 
 pub books-spec : {M : Type 1} → statement M
 books-spec =
@@ -61,14 +38,14 @@ books-spec =
     Inv-loop
     μ-loop
     loop-holds
-    slice-aggregate-line
-    line-requires
-    part-at-requires
+    (λ c. search needs)
+    (λ c κs. search needs)
+    (λ c κs. search needs)
     sub-show
     part-show-start
     part-show-end
-    show-requires
+    (λ c κs. search needs)
     loop-less
-    loop-again
+    (λ c. search needs)
     same-length
-    returns)
+    (λ c. search needs))

@@ -3,9 +3,6 @@ use Prim.Native.Nat.{_-_, _≤_}
 use borrow.Author.Needs.{needs}
 use Rattle.machine_test.proofs.each_lookahead.Statement.{statement}
 use Rattle.machine_test.proofs.each_lookahead.Tie as tie
-use Rattle.machine_test.proofs.each_lookahead.Reads as reads
-use Rattle.machine_test.proofs.each_lookahead.Lts as lts
-use Rattle.machine_test.proofs.show.Reads as show-reads
 
 abbrev Inv-loop : tie.InvT-loop
 Inv-loop cells sentence t z₀ z = z ≤ t

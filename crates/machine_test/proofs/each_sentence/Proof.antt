@@ -3,9 +3,6 @@ use Prim.Native.Nat.{_-_, _≤_}
 use borrow.Author.Needs.{needs}
 use Rattle.machine_test.proofs.each_sentence.Statement.{statement}
 use Rattle.machine_test.proofs.each_sentence.Tie as tie
-use Rattle.machine_test.proofs.each_sentence.Reads as reads
-use Rattle.machine_test.proofs.each_sentence.Lts as lts
-use Rattle.machine_test.proofs.spelled.Reads as spelled-reads
 
 abbrev Inv-loop : tie.InvT-loop
 Inv-loop cells base most count n₀ n = n ≤ count

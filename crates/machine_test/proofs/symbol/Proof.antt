@@ -4,8 +4,6 @@ use native.Mathlib.Omega.{arith}
 use borrow.Author.Needs.{needs}
 use Rattle.machine_test.proofs.symbol.Statement.{statement}
 use Rattle.machine_test.proofs.symbol.Tie as tie
-use Rattle.machine_test.proofs.symbol.Reads as reads
-use Rattle.machine_test.proofs.symbol.Lts as lts
 
 rem-result : tie.Need-rem-result
 rem-result c = search needs

@@ -5,8 +5,6 @@ use lib.ListN.{length}
 use Rattle.number.specs.NumberLaws.{written-one, written-two, written-three}
 use Rattle.number.proofs.width.Statement.{statement}
 use Rattle.number.proofs.width.Tie as tie
-use Rattle.number.proofs.width.Reads as reads
-use Rattle.number.proofs.width.Lts as lts
 
 returns : tie.Need-returns
 returns c = ap length (sym (written-one _ (c .if1 .taken)))

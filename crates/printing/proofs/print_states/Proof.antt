@@ -3,9 +3,6 @@ use Prim.Native.Nat.{_-_, _≤_}
 use borrow.Author.Needs.{needs}
 use Rattle.printing.proofs.print_states.Statement.{statement}
 use Rattle.printing.proofs.print_states.Tie as tie
-use Rattle.printing.proofs.print_states.Reads as reads
-use Rattle.printing.proofs.print_states.Lts as lts
-use Rattle.printing.proofs.print_state.Reads as print-state-reads
 
 abbrev Inv-loop : tie.InvT-loop
 Inv-loop cells d table count s₀ s = s ≤ count

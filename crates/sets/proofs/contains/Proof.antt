@@ -3,9 +3,6 @@ use Rattle.sets.specs.SetLaws.{or-member}
 use borrow.Author.Needs.{needs}
 use Rattle.sets.proofs.contains.Statement.{statement}
 use Rattle.sets.proofs.contains.Tie as tie
-use Rattle.sets.proofs.contains.Reads as reads
-use Rattle.sets.proofs.contains.Lts as lts
-use Rattle.sets.proofs.insert.Reads as insert-reads
 
 insert-requires : tie.Need-insert-requires
 insert-requires c κs = search needs

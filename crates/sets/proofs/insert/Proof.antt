@@ -4,8 +4,6 @@ use native.Mathlib.Nat.{one-mul, mod-eq-of-lt}
 use borrow.Author.Needs.{needs}
 use Rattle.sets.proofs.insert.Statement.{statement}
 use Rattle.sets.proofs.insert.Tie as tie
-use Rattle.sets.proofs.insert.Reads as reads
-use Rattle.sets.proofs.insert.Lts as lts
 
 cast-result : tie.Need-cast-result
 cast-result c = search needs

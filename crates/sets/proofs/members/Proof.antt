@@ -10,9 +10,6 @@ use Rattle.sets.specs.SetLaws.{set-more}
 use borrow.Author.Needs.{needs}
 use Rattle.sets.proofs.members.Statement.{statement}
 use Rattle.sets.proofs.members.Tie as tie
-use Rattle.sets.proofs.members.Reads as reads
-use Rattle.sets.proofs.members.Lts as lts
-use Rattle.sets.proofs.insert_if.Reads as insert-if-reads
 
 abbrev Inv-loop : tie.InvT-loop
 Inv-loop costs mark set₀ z₀ set z = (z ≤ length costs) × (set ≡ setOf (below costs mark) z)
@@ -23,21 +20,6 @@ abbrev μ-loop : tie.MeasureT-loop
 loop-holds : tie.Need-loop-holds Inv-loop μ-loop
 unfolding setOf
 loop-holds c = (omega arith, refl)
-
-mul-insert-if : tie.Need-mul-insert-if Inv-loop μ-loop
-mul-insert-if c = search needs
-
-shared-slice-read-insert-if : tie.Need-shared-slice-read-insert-if Inv-loop μ-loop
-shared-slice-read-insert-if c = search needs
-
-insert-if-requires : tie.Need-insert-if-requires Inv-loop μ-loop
-insert-if-requires c κs = search needs
-
-add-z : tie.Need-add-z Inv-loop μ-loop
-add-z c = search needs
-
-loop-less : tie.Need-loop-less Inv-loop μ-loop
-loop-less c = search needs
 
 loop-again : tie.Need-loop-again Inv-loop μ-loop
 loop-again c = (omega arith, c .insert-if .ensures ∙ rw (c .before .before .before .loop .inv .1) (set-more (below (now (c .before .before .before .before .before .args .costs)) (c .before .before .before .before .before .args .mark)) (c .before .before .before .loop .z)))
@@ -53,10 +35,10 @@ members-spec =
     Inv-loop
     μ-loop
     loop-holds
-    mul-insert-if
-    shared-slice-read-insert-if
-    insert-if-requires
-    add-z
-    loop-less
+    (λ c. search needs)
+    (λ c. search needs)
+    (λ c κs. search needs)
+    (λ c. search needs)
+    (λ c. search needs)
     loop-again
     returns)

@@ -5,24 +5,6 @@ use Rattle.advance.specs.Round.{shifting, other}
 use borrow.Author.Needs.{needs}
 use Rattle.advance.proofs.distance.first.Statement.{statement}
 use Rattle.advance.proofs.distance.first.Tie as tie
-use Rattle.advance.proofs.distance.first.Reads as reads
-use Rattle.advance.proofs.distance.first.Lts as lts
-use Rattle.book.proofs.action_at.Reads as action-at-reads
-
-action-at-requires : tie.Need-action-at-requires
-action-at-requires c κs = search needs
-
-enum-told : tie.Need-enum-told
-enum-told c = search needs
-
-enum-told-2 : tie.Need-enum-told-2
-enum-told-2 c = search needs
-
-enum-told-3 : tie.Need-enum-told-3
-enum-told-3 c = search needs
-
-enum-told-4 : tie.Need-enum-told-4
-enum-told-4 c = search needs
 
 returns : tie.Need-returns
 returns c = shifting (_, sym (c .before .before .action-at .ensures) ∙ c .enum-told .given .1)
@@ -40,11 +22,11 @@ pub first-spec : {M : Type 1} → statement M
 first-spec =
     tie.close
     (tie.spec
-    action-at-requires
-    enum-told
-    enum-told-2
-    enum-told-3
-    enum-told-4
+    (λ c κs. search needs)
+    (λ c. search needs)
+    (λ c. search needs)
+    (λ c. search needs)
+    (λ c. search needs)
     returns
     returns-2
     returns-3

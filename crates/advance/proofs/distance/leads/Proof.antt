@@ -10,19 +10,9 @@ use Rattle.layers.specs.CrossingLaws.{crossing-row-below, goto-least}
 use borrow.Author.Needs.{needs}
 use Rattle.advance.proofs.distance.leads.Statement.{statement}
 use Rattle.advance.proofs.distance.leads.Tie as tie
-use Rattle.advance.proofs.distance.leads.Reads as reads
-use Rattle.advance.proofs.distance.leads.Lts as lts
-use Rattle.book.proofs.goto_at.Reads as goto-at-reads
-use Rattle.layers.proofs.crossing_row.Reads as crossing-row-reads
-
-goto-at-requires : tie.Need-goto-at-requires
-goto-at-requires c κs = search needs
 
 returns : tie.Need-returns
 returns c = (λ e. absurd (false≢true e), λ e a. omega (arith, a .transition, c .before .goto-at .ensures, c .if1 .taken))
-
-crossing-row-requires : tie.Need-crossing-row-requires
-crossing-row-requires c κs = search needs
 
 add-if2 : tie.Need-add-if2
 add-if2 c = omega (arith, crossing-row-below (c .before .before .before .before .before .args .d) (c .before .before .before .before .before .args .q) (c .before .before .before .before .before .args .v) (c .before .before .before .before .before .args .x) (c .before .before .before .before .before .pre .1 .1) (c .before .before .before .before .before .pre .1 .2) (c .before .before .before .before .before .pre .1 .0), c .crossing-row .ensures, c .before .before .before .before .before .pre .1 .3)
@@ -36,12 +26,6 @@ shared-slice-read-if2 c = omega (arith, crossing-row-below (c .before .before .b
 returns-2 : tie.Need-returns-2
 unfolding claimIn
 returns-2 c = (λ e. absurd (false≢true e), λ e a. c .if2 .taken (ap (λ (i : ℕ). getD (c .before .before .before .before .before .before .before .args .table .now) (i + c .before .before .before .before .before .before .before .args .x) 0) (c .before .before .crossing-row .ensures) ∙ a .claimed))
-
-sub-result : tie.Need-sub-result
-sub-result c = search needs
-
-cast-result : tie.Need-cast-result
-cast-result c = search needs
 
 element-copy-out-result : tie.Need-element-copy-out-result
 element-copy-out-result c = omega (arith, goto-least (c .before .before .before .before .before .before .before .pre .0) (c .before .before .before .before .before .before .before .args .q) (c .before .before .before .before .before .before .before .args .v) (c .before .before .before .before .before .before .before .pre .1 .1) (c .before .before .before .before .before .before .before .pre .1 .2), c .before .before .before .before .goto-at .ensures, c .before .before .before .before .before .before .before .pre .0 .small .states)
@@ -62,14 +46,14 @@ pub leads-spec : {M : Type 1} → statement M
 leads-spec =
     tie.close
     (tie.spec
-    goto-at-requires
+    (λ c κs. search needs)
     returns
-    crossing-row-requires
+    (λ c κs. search needs)
     add-if2
     mul-if2
     shared-slice-read-if2
     returns-2
-    sub-result
-    cast-result
+    (λ c. search needs)
+    (λ c. search needs)
     element-copy-out-result
     returns-3)

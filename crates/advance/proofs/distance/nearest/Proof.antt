@@ -8,19 +8,12 @@ use Rattle.layers.specs.Crossing.{claimIn}
 use borrow.Author.Needs.{needs}
 use Rattle.advance.proofs.distance.nearest.Statement.{statement}
 use Rattle.advance.proofs.distance.nearest.Tie as tie
-use Rattle.advance.proofs.distance.nearest.Reads as reads
-use Rattle.advance.proofs.distance.nearest.Lts as lts
-use Rattle.advance.proofs.distance.round.Reads as round-reads
-use Rattle.advance.proofs.distance.start.Reads as start-reads
 
 abbrev Inv-loop : tie.InvT-loop
 Inv-loop cells d table x to₀ m₀ n₀ to m n = (m ≤ 128) × Rounds (tablesOf cells) (claimIn d table) x m n to
 
 abbrev μ-loop : tie.MeasureT-loop
 μ-loop cells d table x to₀ m₀ n₀ to m n = 128 - m
-
-start-requires : tie.Need-start-requires Inv-loop μ-loop
-start-requires c κs = search needs
 
 loop-holds : tie.Need-loop-holds Inv-loop μ-loop
 loop-holds c = (omega arith, rounds-none (c .before .before .before .before .pre .0) (c .start .ensures))
@@ -46,7 +39,7 @@ nearest-spec =
     (tie.spec
     Inv-loop
     μ-loop
-    start-requires
+    (λ c κs. search needs)
     loop-holds
     round-requires
     add-m

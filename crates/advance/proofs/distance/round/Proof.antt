@@ -9,9 +9,6 @@ use Rattle.advance.specs.RoundLaws.{round-more}
 use borrow.Author.Needs.{needs}
 use Rattle.advance.proofs.distance.round.Statement.{statement}
 use Rattle.advance.proofs.distance.round.Tie as tie
-use Rattle.advance.proofs.distance.round.Reads as reads
-use Rattle.advance.proofs.distance.round.Lts as lts
-use Rattle.advance.proofs.distance.turn.Reads as turn-reads
 
 abbrev Inv-loop : tie.InvT-loop
 Inv-loop cells d table x m to₀ s n₀ q₀ to n q = (q ≤ s) × (n ≤ q) × Round (tablesOf cells) (claimIn d table) x m q n to

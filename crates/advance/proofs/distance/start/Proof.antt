@@ -8,9 +8,6 @@ use Rattle.advance.specs.RoundLaws.{started-none, started-more}
 use borrow.Author.Needs.{needs}
 use Rattle.advance.proofs.distance.start.Statement.{statement}
 use Rattle.advance.proofs.distance.start.Tie as tie
-use Rattle.advance.proofs.distance.start.Reads as reads
-use Rattle.advance.proofs.distance.start.Lts as lts
-use Rattle.advance.proofs.distance.first.Reads as first-reads
 
 abbrev Inv-loop : tie.InvT-loop
 Inv-loop cells d x to₀ s q₀ to q = (q ≤ s) × Started (tablesOf cells) x q to
@@ -21,17 +18,8 @@ abbrev μ-loop : tie.MeasureT-loop
 loop-holds : tie.Need-loop-holds Inv-loop μ-loop
 loop-holds c = (omega arith, started-none)
 
-first-requires : tie.Need-first-requires Inv-loop μ-loop
-first-requires c κs = search needs
-
 element-write-to : tie.Need-element-write-to Inv-loop μ-loop
 element-write-to c = omega (arith, c .before .before .loop .inv .1 .size, c .before .before .before .before .before .pre .0 .small .states)
-
-add-q : tie.Need-add-q Inv-loop μ-loop
-add-q c = search needs
-
-loop-less : tie.Need-loop-less Inv-loop μ-loop
-loop-less c = search needs
 
 loop-again : tie.Need-loop-again Inv-loop μ-loop
 loop-again c = (omega arith, started-more (omega (arith, c .before .before .before .before .before .pre .0 .small .states, c .before .loop-test .taken)) (c .before .before .loop .inv .1) (c .first .ensures))
@@ -46,9 +34,9 @@ start-spec =
     Inv-loop
     μ-loop
     loop-holds
-    first-requires
+    (λ c κs. search needs)
     element-write-to
-    add-q
-    loop-less
+    (λ c. search needs)
+    (λ c. search needs)
     loop-again
     returns)

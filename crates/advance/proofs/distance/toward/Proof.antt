@@ -8,9 +8,6 @@ use Rattle.advance.specs.Nearest.{Leads}
 use borrow.Author.Needs.{needs}
 use Rattle.advance.proofs.distance.toward.Statement.{statement}
 use Rattle.advance.proofs.distance.toward.Tie as tie
-use Rattle.advance.proofs.distance.toward.Reads as reads
-use Rattle.advance.proofs.distance.toward.Lts as lts
-use Rattle.advance.proofs.distance.leads.Reads as leads-reads
 
 abbrev Inv-loop : tie.InvT-loop
 Inv-loop cells d table x to q m n v₀ v = (v ≤ n) × ((k : ℕ) → k < v → ¬ Leads (tablesOf cells) (claimIn d table) x to q m k)
@@ -21,17 +18,8 @@ abbrev μ-loop : tie.MeasureT-loop
 loop-holds : tie.Need-loop-holds Inv-loop μ-loop
 loop-holds c = (omega arith, below-none _)
 
-leads-requires : tie.Need-leads-requires Inv-loop μ-loop
-leads-requires c κs = search needs
-
 returns : tie.Need-returns Inv-loop μ-loop
 returns c = record { within = omega (arith, c .before .before .loop-test .taken); found = λ h. c .before .leads .ensures .0 (c .if1 .taken); before = c .before .before .before .loop .inv .1 }
-
-add-v : tie.Need-add-v Inv-loop μ-loop
-add-v c = search needs
-
-loop-less : tie.Need-loop-less Inv-loop μ-loop
-loop-less c = search needs
 
 loop-again : tie.Need-loop-again Inv-loop μ-loop
 loop-again c = (omega (arith, c .before .before .loop-test .taken), below-more _ _ (c .before .before .before .loop .inv .1) (c .before .leads .ensures .1 (c .if1 .left)))
@@ -46,9 +34,9 @@ toward-spec =
     Inv-loop
     μ-loop
     loop-holds
-    leads-requires
+    (λ c κs. search needs)
     returns
-    add-v
-    loop-less
+    (λ c. search needs)
+    (λ c. search needs)
     loop-again
     returns-2)

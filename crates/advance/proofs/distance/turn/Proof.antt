@@ -8,34 +8,15 @@ use Rattle.advance.specs.Round.{kept, given}
 use borrow.Author.Needs.{needs}
 use Rattle.advance.proofs.distance.turn.Statement.{statement}
 use Rattle.advance.proofs.distance.turn.Tie as tie
-use Rattle.advance.proofs.distance.turn.Reads as reads
-use Rattle.advance.proofs.distance.turn.Lts as lts
-use Rattle.advance.proofs.distance.toward.Reads as toward-reads
-use Rattle.layers.proofs.opens.Reads as opens-reads
-
-element-copy-out-if1 : tie.Need-element-copy-out-if1
-element-copy-out-if1 c = search needs
 
 returns : tie.Need-returns
 returns c = (omega arith, kept (λ e X a. c .if1 .taken e))
 
-opens-requires : tie.Need-opens-requires
-opens-requires c κs = search needs
-
 returns-2 : tie.Need-returns-2
 returns-2 c = (omega arith, kept (λ e X. unopened-leads (omega (arith, terminals-are (c .before .before .before .before .before .before .pre .0), c .before .before .before .before .before .before .pre .1 .0 .0)) (c .before .before .before .before .before .before .pre .1 .1 .0) (c .before .opens .ensures (not-true _ (c .if2 .taken)))))
 
-toward-requires : tie.Need-toward-requires
-toward-requires c κs = search needs
-
 returns-3 : tie.Need-returns-3
 returns-3 c = (omega arith, kept (λ e X a. c .before .toward .ensures .before X (omega (arith, goto-some (c .before .before .before .before .before .before .before .before .before .pre .0) (c .before .before .before .before .before .before .before .before .before .args .q) X (a .target) (a .transition) .1, c .if3 .taken)) a))
-
-add-to : tie.Need-add-to
-add-to c = search needs
-
-element-write-to : tie.Need-element-write-to
-element-write-to c = search needs
 
 returns-4 : tie.Need-returns-4
 returns-4 c = (omega arith, given (c .before .before .before .before .before .if1 .left) (c .before .toward .ensures .found (omega (arith, c .before .toward .ensures .within, c .if3 .left))))
@@ -44,12 +25,12 @@ pub turn-spec : {M : Type 1} → statement M
 turn-spec =
     tie.close
     (tie.spec
-    element-copy-out-if1
+    (λ c. search needs)
     returns
-    opens-requires
+    (λ c κs. search needs)
     returns-2
-    toward-requires
+    (λ c κs. search needs)
     returns-3
-    add-to
-    element-write-to
+    (λ c. search needs)
+    (λ c. search needs)
     returns-4)

@@ -4,19 +4,6 @@ use native.Mathlib.Omega.{arith}
 use borrow.Author.Needs.{needs}
 use Rattle.advance.proofs.push.next_state.Statement.{statement}
 use Rattle.advance.proofs.push.next_state.Tie as tie
-use Rattle.advance.proofs.push.next_state.Reads as reads
-use Rattle.advance.proofs.push.next_state.Lts as lts
-use Rattle.advance.proofs.distance.toward.Reads as toward-reads
-use Rattle.book.proofs.goto_at.Reads as goto-at-reads
-
-element-copy-out-toward : tie.Need-element-copy-out-toward
-element-copy-out-toward c = search needs
-
-sub-toward : tie.Need-sub-toward
-sub-toward c = search needs
-
-toward-requires : tie.Need-toward-requires
-toward-requires c κs = search needs
 
 goto-at-requires : tie.Need-goto-at-requires
 goto-at-requires c κs = (c .before .before .before .before .pre .0, (c .before .before .before .before .pre .1 .0 .1, next-found (c .before .before .before .before .pre .0) (c .before .before .before .before .pre .1 .1 .0 .sound) (c .before .before .before .before .pre .1 .0 .1) (c .before .before .before .before .pre .1 .1 .1 .0) (c .before .before .before .before .pre .1 .1 .1 .1) (c .toward .ensures)))
@@ -31,9 +18,9 @@ pub next-state-spec : {M : Type 1} → statement M
 next-state-spec =
     tie.close
     (tie.spec
-    element-copy-out-toward
-    sub-toward
-    toward-requires
+    (λ c. search needs)
+    (λ c. search needs)
+    (λ c κs. search needs)
     goto-at-requires
     sub-result
     returns)

@@ -11,28 +11,12 @@ use Rattle.advance.specs.PushLaws.{pushed-none, pushed-more, pushed-done
 use borrow.Author.Needs.{needs}
 use Rattle.advance.proofs.push.push_to_shift.Statement.{statement}
 use Rattle.advance.proofs.push.push_to_shift.Tie as tie
-use Rattle.advance.proofs.push.push_to_shift.Reads as reads
-use Rattle.advance.proofs.push.push_to_shift.Lts as lts
-use Rattle.advance.proofs.push.next_state.Reads as next-state-reads
-use Rattle.advance.proofs.push.shift_target.Reads as shift-target-reads
 
 abbrev Inv-loop : tie.InvT-loop
 Inv-loop cells d table to x stack₀ depth top₀ g₀ stack top g = Pushed (tablesOf cells) x to depth stack₀ top g stack
 
 abbrev μ-loop : tie.MeasureT-loop
 μ-loop cells d table to x stack₀ depth top₀ g₀ stack top g = getD to g 0
-
-sub-g : tie.Need-sub-g Inv-loop μ-loop
-sub-g c = search needs
-
-mul-g : tie.Need-mul-g Inv-loop μ-loop
-mul-g c = search needs
-
-slice-read-g : tie.Need-slice-read-g Inv-loop μ-loop
-slice-read-g c = search needs
-
-cast-g : tie.Need-cast-g Inv-loop μ-loop
-cast-g c = search needs
 
 loop-holds : tie.Need-loop-holds Inv-loop μ-loop
 loop-holds c = pushed-none (c .before .before .before .before .args .to .now) (c .before .before .before .before .pre .1 .1 .1 .1 .0 .0) (c .before .before .before .before .pre .1 .1 .1 .1 .0 .1) refl (omega (arith, states-are (c .before .before .before .before .pre .0), c .before .before .before .before .pre .1 .1 .1 .1 .1 .0)) (near-low (c .before .before .before .before .pre .1 .1 .1 .0 .sound) _ (c .before .before .before .before .pre .1 .1 .1 .1 .1 .1))
@@ -51,9 +35,6 @@ slice-write-stack c = omega (arith, c .before .before .before .loop .inv .room, 
 
 add-top : tie.Need-add-top Inv-loop μ-loop
 add-top c = omega (arith, c .before .before .before .loop .inv .room, c .before .before .before .loop .inv .size)
-
-cast-g-2 : tie.Need-cast-g-2 Inv-loop μ-loop
-cast-g-2 c = search needs
 
 loop-less : tie.Need-loop-less Inv-loop μ-loop
 loop-less c = omega (arith, c .next-state .ensures .nearer)
@@ -85,17 +66,17 @@ push-to-shift-spec =
     (tie.spec
     Inv-loop
     μ-loop
-    sub-g
-    mul-g
-    slice-read-g
-    cast-g
+    (λ c. search needs)
+    (λ c. search needs)
+    (λ c. search needs)
+    (λ c. search needs)
     loop-holds
     element-copy-out-if1
     next-state-requires
     mul-stack
     slice-write-stack
     add-top
-    cast-g-2
+    (λ c. search needs)
     loop-less
     loop-again
     shift-target-requires

@@ -4,24 +4,6 @@ use Rattle.layers.specs.ActionLaws.{error-shiftless, accept-shiftless, reduce-s
 use borrow.Author.Needs.{needs}
 use Rattle.advance.proofs.push.shift_target.Statement.{statement}
 use Rattle.advance.proofs.push.shift_target.Tie as tie
-use Rattle.advance.proofs.push.shift_target.Reads as reads
-use Rattle.advance.proofs.push.shift_target.Lts as lts
-use Rattle.book.proofs.action_at.Reads as action-at-reads
-
-action-at-requires : tie.Need-action-at-requires
-action-at-requires c κs = search needs
-
-enum-known-s : tie.Need-enum-known-s
-enum-known-s c = search needs
-
-enum-told : tie.Need-enum-told
-enum-told c = search needs
-
-enum-told-2 : tie.Need-enum-told-2
-enum-told-2 c = search needs
-
-enum-told-3 : tie.Need-enum-told-3
-enum-told-3 c = search needs
 
 returns : tie.Need-returns
 returns c = sym (c .before .before .before .action-at .ensures) ∙ c .before .s .given .1
@@ -39,11 +21,11 @@ pub shift-target-spec : {M : Type 1} → statement M
 shift-target-spec =
     tie.close
     (tie.spec
-    action-at-requires
-    enum-known-s
-    enum-told
-    enum-told-2
-    enum-told-3
+    (λ c κs. search needs)
+    (λ c. search needs)
+    (λ c. search needs)
+    (λ c. search needs)
+    (λ c. search needs)
     returns
     returns-2
     returns-3

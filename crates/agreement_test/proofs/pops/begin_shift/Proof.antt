@@ -10,41 +10,17 @@ Inv-loop over₀ x q t z₀ over z = Unit
 abbrev μ-loop : tie.MeasureT-loop
 μ-loop over₀ x q t z₀ over z = t - z
 
-loop-holds : tie.Need-loop-holds Inv-loop μ-loop
-loop-holds c = search needs
-
-mul-lower-over : tie.Need-mul-lower-over Inv-loop μ-loop
-mul-lower-over c = search needs
-
-add-lower-over : tie.Need-add-lower-over Inv-loop μ-loop
-add-lower-over c = search needs
-
-lower-over-requires : tie.Need-lower-over-requires Inv-loop μ-loop
-lower-over-requires c κs = search needs
-
-add-z : tie.Need-add-z Inv-loop μ-loop
-add-z c = search needs
-
-loop-less : tie.Need-loop-less Inv-loop μ-loop
-loop-less c = search needs
-
-loop-again : tie.Need-loop-again Inv-loop μ-loop
-loop-again c = search needs
-
-returns : tie.Need-returns Inv-loop μ-loop
-returns c = search needs
-
 pub begin-shift-spec : {M : Type 1} → statement M
 begin-shift-spec =
     tie.close
     (tie.spec
     Inv-loop
     μ-loop
-    loop-holds
-    mul-lower-over
-    add-lower-over
-    lower-over-requires
-    add-z
-    loop-less
-    loop-again
-    returns)
+    (λ c. search needs)
+    (λ c. search needs)
+    (λ c. search needs)
+    (λ c κs. search needs)
+    (λ c. search needs)
+    (λ c. search needs)
+    (λ c. search needs)
+    (λ c. search needs))

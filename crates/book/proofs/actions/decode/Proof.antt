@@ -6,8 +6,6 @@ use Rattle.book.specs.ActionLaws.{action-even, action-odd}
 use borrow.Author.Needs.{needs}
 use Rattle.book.proofs.actions.decode.Statement.{statement}
 use Rattle.book.proofs.actions.decode.Tie as tie
-use Rattle.book.proofs.actions.decode.Reads as reads
-use Rattle.book.proofs.actions.decode.Lts as lts
 
 returns : tie.Need-returns
 unfolding actionOf

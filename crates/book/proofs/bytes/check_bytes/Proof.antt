@@ -7,21 +7,6 @@ use Rattle.book.specs.Book.{ofBytes}
 use borrow.Author.Needs.{needs}
 use Rattle.book.proofs.bytes.check_bytes.Statement.{statement}
 use Rattle.book.proofs.bytes.check_bytes.Tie as tie
-use Rattle.book.proofs.bytes.check_bytes.Reads as reads
-use Rattle.book.proofs.bytes.check_bytes.Lts as lts
-use Rattle.book.proofs.bytes.body_row.Reads as body-row-reads
-use Rattle.book.proofs.bytes.head_row.Reads as head-row-reads
-use Rattle.book.proofs.range.close.Reads as close-reads
-use Rattle.book.proofs.range.sizes.Reads as sizes-reads
-
-head-row-requires : tie.Need-head-row-requires
-head-row-requires c κs = search needs
-
-enum-known-r : tie.Need-enum-known-r
-enum-known-r c = search needs
-
-enum-known-next : tie.Need-enum-known-next
-enum-known-next c = search needs
 
 slice-aggregate-sizes : tie.Need-slice-aggregate-sizes
 slice-aggregate-sizes c = sym (row-length _ _ 5 _ _ _ _ (rw (c .before .before .next .given .1) at (c .before .before .before .before .head-row .ensures)))
@@ -31,9 +16,6 @@ sizes-requires c κs = omega (arith, row-length _ _ 5 _ _ _ _ (rw (c .before .be
 
 body-row-requires : tie.Need-body-row-requires
 body-row-requires c κs = rw (c .sizes .ensures) (head-small _ _ _ (rw (c .before .before .before .next .given .1) at (c .before .before .before .before .before .head-row .ensures)))
-
-close-requires : tie.Need-close-requires
-close-requires c κs = search needs
 
 returns : tie.Need-returns
 unfolding ofBytes
@@ -47,12 +29,12 @@ pub check-bytes-spec : {M : Type 1} → statement M
 check-bytes-spec =
     tie.close
     (tie.spec
-    head-row-requires
-    enum-known-r
-    enum-known-next
+    (λ c κs. search needs)
+    (λ c. search needs)
+    (λ c. search needs)
     slice-aggregate-sizes
     sizes-requires
     body-row-requires
-    close-requires
+    (λ c κs. search needs)
     returns
     returns-2)

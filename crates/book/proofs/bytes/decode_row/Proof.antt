@@ -8,9 +8,6 @@ use Rattle.book.specs.BytesLaws.{Decoded, decoded-none, decoded-more, de
 use borrow.Author.Needs.{needs}
 use Rattle.book.proofs.bytes.decode_row.Statement.{statement}
 use Rattle.book.proofs.bytes.decode_row.Tie as tie
-use Rattle.book.proofs.bytes.decode_row.Reads as reads
-use Rattle.book.proofs.bytes.decode_row.Lts as lts
-use Rattle.number.proofs.Cursor.read.Reads as read-reads
 
 abbrev Inv-loop : tie.InvT-loop
 Inv-loop bytes cells₀ n at₀ i₀ cells at i = (i ≤ n) × (length cells ≡ length cells₀) × Decoded (numberAt bytes) n cells₀ cells i at
@@ -20,15 +17,6 @@ abbrev μ-loop : tie.MeasureT-loop
 
 loop-holds : tie.Need-loop-holds Inv-loop μ-loop
 loop-holds c = (omega arith, search needs, decoded-none)
-
-read-requires : tie.Need-read-requires Inv-loop μ-loop
-read-requires c κs = search needs
-
-enum-known-v : tie.Need-enum-known-v Inv-loop μ-loop
-enum-known-v c = search needs
-
-enum-told : tie.Need-enum-told Inv-loop μ-loop
-enum-told c = search needs
 
 same-length : tie.Need-same-length Inv-loop μ-loop
 same-length c = c .before .before .before .before .loop .inv .1
@@ -41,12 +29,6 @@ mul-cells c = omega (arith, c .before .before .before .before .before .before .b
 
 slice-write-cells : tie.Need-slice-write-cells Inv-loop μ-loop
 slice-write-cells c = omega (arith, c .before .before .before .before .before .before .before .before .pre)
-
-add-i : tie.Need-add-i Inv-loop μ-loop
-add-i c = search needs
-
-loop-less : tie.Need-loop-less Inv-loop μ-loop
-loop-less c = search needs
 
 loop-again : tie.Need-loop-again Inv-loop μ-loop
 loop-again c =
@@ -65,15 +47,15 @@ decode-row-spec =
     Inv-loop
     μ-loop
     loop-holds
-    read-requires
-    enum-known-v
-    enum-told
+    (λ c κs. search needs)
+    (λ c. search needs)
+    (λ c. search needs)
     same-length
     returns
     mul-cells
     slice-write-cells
-    add-i
-    loop-less
+    (λ c. search needs)
+    (λ c. search needs)
     loop-again
     same-length-2
     returns-2)

@@ -9,10 +9,6 @@ use Rattle.book.specs.RowLaws.{Kept, kept-none, kept-more, kept-stop, ke
 use borrow.Author.Needs.{needs}
 use Rattle.book.proofs.bytes.head_row.Statement.{statement}
 use Rattle.book.proofs.bytes.head_row.Tie as tie
-use Rattle.book.proofs.bytes.head_row.Reads as reads
-use Rattle.book.proofs.bytes.head_row.Lts as lts
-use Rattle.book.proofs.range.admit_head.Reads as admit-head-reads
-use Rattle.number.proofs.Cursor.read.Reads as read-reads
 
 abbrev Inv-loop : tie.InvT-loop
 Inv-loop bytes head₀ at₀ i₀ head at i = (i ≤ 5) × (length head ≡ 5) × Kept (numberAt bytes) headFault 5 0 head i at
@@ -23,32 +19,8 @@ abbrev μ-loop : tie.MeasureT-loop
 loop-holds : tie.Need-loop-holds Inv-loop μ-loop
 loop-holds c = (omega arith, c .before .pre, kept-none)
 
-read-requires : tie.Need-read-requires Inv-loop μ-loop
-read-requires c κs = search needs
-
-admit-head-requires : tie.Need-admit-head-requires Inv-loop μ-loop
-admit-head-requires c κs = search needs
-
-enum-known-found : tie.Need-enum-known-found Inv-loop μ-loop
-enum-known-found c = search needs
-
-enum-told : tie.Need-enum-told Inv-loop μ-loop
-enum-told c = search needs
-
 returns : tie.Need-returns Inv-loop μ-loop
 returns c = let e = c .enum-told .given .1 in rw e (kept-stop (c .before .before .before .before .before .loop .inv .2) (c .before .before .before .before .loop-test .taken) (sym (rw (c .before .before .before .read .ensures) at (c .before .before .admit-head .ensures)) ∙ e))
-
-mul-head : tie.Need-mul-head Inv-loop μ-loop
-mul-head c = search needs
-
-element-write-head : tie.Need-element-write-head Inv-loop μ-loop
-element-write-head c = search needs
-
-add-i : tie.Need-add-i Inv-loop μ-loop
-add-i c = search needs
-
-loop-less : tie.Need-loop-less Inv-loop μ-loop
-loop-less c = search needs
 
 loop-again : tie.Need-loop-again Inv-loop μ-loop
 loop-again c = (omega arith, simp length-set (c .before .before .before .before .before .before .loop .inv .1), kept-more (c .before .before .before .before .before .before .loop .inv .2) (c .before .before .before .before .before .loop-test .taken) (omega arith) (sym (rw (c .before .before .before .before .read .ensures) at (c .before .before .before .admit-head .ensures)) ∙ c .before .found .given .1))
@@ -63,14 +35,14 @@ head-row-spec =
     Inv-loop
     μ-loop
     loop-holds
-    read-requires
-    admit-head-requires
-    enum-known-found
-    enum-told
+    (λ c κs. search needs)
+    (λ c κs. search needs)
+    (λ c. search needs)
+    (λ c. search needs)
     returns
-    mul-head
-    element-write-head
-    add-i
-    loop-less
+    (λ c. search needs)
+    (λ c. search needs)
+    (λ c. search needs)
+    (λ c. search needs)
     loop-again
     returns-2)

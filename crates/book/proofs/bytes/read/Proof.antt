@@ -8,20 +8,6 @@ use Rattle.book.specs.RangeLaws.{actions-few, gotos-few}
 use borrow.Author.Needs.{needs}
 use Rattle.book.proofs.bytes.read.Statement.{statement}
 use Rattle.book.proofs.bytes.read.Tie as tie
-use Rattle.book.proofs.bytes.read.Reads as reads
-use Rattle.book.proofs.bytes.read.Lts as lts
-use Rattle.book.proofs.bytes.check_bytes.Reads as check-bytes-reads
-use Rattle.book.proofs.bytes.decode_row.Reads as decode-row-reads
-use Rattle.book.proofs.range.body_length.Reads as body-length-reads
-
-check-bytes-requires : tie.Need-check-bytes-requires
-check-bytes-requires c κs = search needs
-
-enum-known-r : tie.Need-enum-known-r
-enum-known-r c = search needs
-
-enum-known-d : tie.Need-enum-known-d
-enum-known-d c = search needs
 
 body-length-requires : tie.Need-body-length-requires
 unfolding ofBytes
@@ -37,17 +23,11 @@ returns c =
     let v = readable _ _ _ (sym (c .before .before .before .before .before .check-bytes .ensures) ∙ c .before .before .before .d .given .1) in
     deliver-short _ _ _ (v .cells) (v .next) (v .is) (omega (arith, c .if1 .taken, v .count, c .before .body-length .ensures))
 
-decode-row-requires : tie.Need-decode-row-requires
-decode-row-requires c κs = search needs
-
 returns-2 : tie.Need-returns-2
 unfolding reading
 returns-2 c =
     let book = ofBytes (now (c .before .before .before .before .before .before .args .bytes)) in
     deliver-stop (λ cells. cells) book _ _ (checked-faulty book _ (sym (c .before .before .before .check-bytes .ensures) ∙ c .before .r .given .1))
-
-same-length : tie.Need-same-length
-same-length c = search needs
 
 returns-3 : tie.Need-returns-3
 unfolding ofBytes reading
@@ -62,13 +42,13 @@ pub read-spec : {M : Type 1} → statement M
 read-spec =
     tie.close
     (tie.spec
-    check-bytes-requires
-    enum-known-r
-    enum-known-d
+    (λ c κs. search needs)
+    (λ c. search needs)
+    (λ c. search needs)
     body-length-requires
     add-n
     returns
-    decode-row-requires
+    (λ c κs. search needs)
     returns-2
-    same-length
+    (λ c. search needs)
     returns-3)

@@ -8,11 +8,6 @@ use Rattle.book.specs.RowLaws.{Turns, turns-none, turns-more, turns-stop
 use borrow.Author.Needs.{needs}
 use Rattle.book.proofs.cells.body_row.Statement.{statement}
 use Rattle.book.proofs.cells.body_row.Tie as tie
-use Rattle.book.proofs.cells.body_row.Reads as reads
-use Rattle.book.proofs.cells.body_row.Lts as lts
-use Rattle.book.proofs.cells.cell_at.Reads as cell-at-reads
-use Rattle.book.proofs.range.admit_body.Reads as admit-body-reads
-use Rattle.book.proofs.range.body_length.Reads as body-length-reads
 
 abbrev Inv-loop : tie.InvT-loop
 Inv-loop cells d start n at₀ i₀ at i = (i ≤ n) × Turns (cellAt cells) (bodyFault d) n start i at
@@ -20,34 +15,13 @@ Inv-loop cells d start n at₀ i₀ at i = (i ≤ n) × Turns (cellAt cells) (bo
 abbrev μ-loop : tie.MeasureT-loop
 μ-loop cells d start n at₀ i₀ at i = n - i
 
-body-length-requires : tie.Need-body-length-requires Inv-loop μ-loop
-body-length-requires c κs = search needs
-
 loop-holds : tie.Need-loop-holds Inv-loop μ-loop
 loop-holds c = (omega arith, turns-none)
-
-cell-at-requires : tie.Need-cell-at-requires Inv-loop μ-loop
-cell-at-requires c κs = search needs
-
-admit-body-requires : tie.Need-admit-body-requires Inv-loop μ-loop
-admit-body-requires c κs = search needs
-
-enum-known-found : tie.Need-enum-known-found Inv-loop μ-loop
-enum-known-found c = search needs
-
-enum-told : tie.Need-enum-told Inv-loop μ-loop
-enum-told c = search needs
 
 returns : tie.Need-returns Inv-loop μ-loop
 returns c =
     let e = c .enum-told .given .1 in
     rw (← c .before .before .before .before .before .before .body-length .ensures) (e ∙ turns-stop (c .before .before .before .before .before .loop .inv .1) (c .before .before .before .before .loop-test .taken) (sym (rw (c .before .before .before .cell-at .ensures) at (c .before .before .admit-body .ensures)) ∙ e))
-
-add-i : tie.Need-add-i Inv-loop μ-loop
-add-i c = search needs
-
-loop-less : tie.Need-loop-less Inv-loop μ-loop
-loop-less c = search needs
 
 loop-again : tie.Need-loop-again Inv-loop μ-loop
 loop-again c = (omega arith, turns-more (c .before .before .before .before .before .before .loop .inv .1) (c .before .before .before .before .before .loop-test .taken) (sym (rw (c .before .before .before .before .cell-at .ensures) at (c .before .before .before .admit-body .ensures)) ∙ c .before .found .given .1))
@@ -61,14 +35,14 @@ body-row-spec =
     (tie.spec
     Inv-loop
     μ-loop
-    body-length-requires
+    (λ c κs. search needs)
     loop-holds
-    cell-at-requires
-    admit-body-requires
-    enum-known-found
-    enum-told
+    (λ c κs. search needs)
+    (λ c κs. search needs)
+    (λ c. search needs)
+    (λ c. search needs)
     returns
-    add-i
-    loop-less
+    (λ c. search needs)
+    (λ c. search needs)
     loop-again
     returns-2)

@@ -10,9 +10,6 @@ use Rattle.book.specs.BytesLaws.{bytes-count, bytes-fit, bytes-most}
 use borrow.Author.Needs.{needs}
 use Rattle.book.proofs.cells.byte_count.Statement.{statement}
 use Rattle.book.proofs.cells.byte_count.Tie as tie
-use Rattle.book.proofs.cells.byte_count.Reads as reads
-use Rattle.book.proofs.cells.byte_count.Lts as lts
-use Rattle.number.proofs.width.Reads as width-reads
 
 abbrev Inv-loop : tie.InvT-loop
 Inv-loop cells n₀ i₀ n i = (i ≤ length cells) × (n ≡ length (bytesOf (take i cells)))
@@ -23,23 +20,8 @@ abbrev μ-loop : tie.MeasureT-loop
 loop-holds : tie.Need-loop-holds Inv-loop μ-loop
 loop-holds c = (omega arith, refl)
 
-mul-width : tie.Need-mul-width Inv-loop μ-loop
-mul-width c = search needs
-
-shared-slice-read-width : tie.Need-shared-slice-read-width Inv-loop μ-loop
-shared-slice-read-width c = search needs
-
-width-requires : tie.Need-width-requires Inv-loop μ-loop
-width-requires c κs = search needs
-
 add-n : tie.Need-add-n Inv-loop μ-loop
 add-n c = omega (arith, bytes-fit (c .before .before .before .before .before .args .cells .now) (c .before .before .before .loop .i) (c .before .before .loop-test .taken), bytes-most (c .before .before .before .before .before .args .cells .now), c .width .ensures)
-
-add-i : tie.Need-add-i Inv-loop μ-loop
-add-i c = search needs
-
-loop-less : tie.Need-loop-less Inv-loop μ-loop
-loop-less c = search needs
 
 loop-again : tie.Need-loop-again Inv-loop μ-loop
 loop-again c = (omega arith, omega (arith, bytes-count (c .before .before .before .before .before .args .cells .now) (c .before .before .before .loop .i) (c .before .before .loop-test .taken), c .width .ensures))
@@ -54,11 +36,11 @@ byte-count-spec =
     Inv-loop
     μ-loop
     loop-holds
-    mul-width
-    shared-slice-read-width
-    width-requires
+    (λ c. search needs)
+    (λ c. search needs)
+    (λ c κs. search needs)
     add-n
-    add-i
-    loop-less
+    (λ c. search needs)
+    (λ c. search needs)
     loop-again
     returns)

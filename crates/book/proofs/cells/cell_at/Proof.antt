@@ -4,8 +4,6 @@ use Rattle.book.specs.Book.{cellAt}
 use borrow.Author.Needs.{needs}
 use Rattle.book.proofs.cells.cell_at.Statement.{statement}
 use Rattle.book.proofs.cells.cell_at.Tie as tie
-use Rattle.book.proofs.cells.cell_at.Reads as reads
-use Rattle.book.proofs.cells.cell_at.Lts as lts
 
 mul-t5 : tie.Need-mul-t5
 mul-t5 c = search needs

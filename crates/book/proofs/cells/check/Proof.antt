@@ -5,30 +5,12 @@ use Rattle.book.specs.Book.{ofCells}
 use borrow.Author.Needs.{needs}
 use Rattle.book.proofs.cells.check.Statement.{statement}
 use Rattle.book.proofs.cells.check.Tie as tie
-use Rattle.book.proofs.cells.check.Reads as reads
-use Rattle.book.proofs.cells.check.Lts as lts
-use Rattle.book.proofs.cells.body_row.Reads as body-row-reads
-use Rattle.book.proofs.cells.head_row.Reads as head-row-reads
-use Rattle.book.proofs.range.close.Reads as close-reads
-use Rattle.book.proofs.range.sizes.Reads as sizes-reads
-
-head-row-requires : tie.Need-head-row-requires
-head-row-requires c κs = search needs
-
-enum-known-r : tie.Need-enum-known-r
-enum-known-r c = search needs
-
-enum-known-next : tie.Need-enum-known-next
-enum-known-next c = search needs
 
 sizes-requires : tie.Need-sizes-requires
 sizes-requires c κs = (cells-head _ _ _ (sym (c .before .before .before .head-row .ensures) ∙ c .before .next .given .1)) .long
 
 body-row-requires : tie.Need-body-row-requires
 body-row-requires c κs = rw (c .sizes .ensures) ((cells-head _ _ _ (sym (c .before .before .before .before .head-row .ensures) ∙ c .before .before .next .given .1)) .small)
-
-close-requires : tie.Need-close-requires
-close-requires c κs = search needs
 
 returns : tie.Need-returns
 unfolding ofCells
@@ -41,11 +23,11 @@ pub check-spec : {M : Type 1} → statement M
 check-spec =
     tie.close
     (tie.spec
-    head-row-requires
-    enum-known-r
-    enum-known-next
+    (λ c κs. search needs)
+    (λ c. search needs)
+    (λ c. search needs)
     sizes-requires
     body-row-requires
-    close-requires
+    (λ c κs. search needs)
     returns
     returns-2)

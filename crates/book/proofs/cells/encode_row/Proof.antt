@@ -7,9 +7,6 @@ use Rattle.book.specs.BytesLaws.{Encoded, encoded-none, encoded-fits, en
 use borrow.Author.Needs.{needs}
 use Rattle.book.proofs.cells.encode_row.Statement.{statement}
 use Rattle.book.proofs.cells.encode_row.Tie as tie
-use Rattle.book.proofs.cells.encode_row.Reads as reads
-use Rattle.book.proofs.cells.encode_row.Lts as lts
-use Rattle.number.proofs.write.Reads as write-reads
 
 abbrev Inv-loop : tie.InvT-loop
 Inv-loop cells bytes₀ at₀ i₀ bytes at i = (i ≤ length cells) × (length bytes ≡ length bytes₀) × Encoded cells bytes₀ bytes i at
@@ -20,20 +17,8 @@ abbrev μ-loop : tie.MeasureT-loop
 loop-holds : tie.Need-loop-holds Inv-loop μ-loop
 loop-holds c = (omega arith, search needs, encoded-none)
 
-mul-write : tie.Need-mul-write Inv-loop μ-loop
-mul-write c = search needs
-
-shared-slice-read-write : tie.Need-shared-slice-read-write Inv-loop μ-loop
-shared-slice-read-write c = search needs
-
 write-requires : tie.Need-write-requires Inv-loop μ-loop
 write-requires c κs = rw (c .before .before .before .loop .inv .1) (encoded-fits (c .before .before .before .loop .inv .2) (c .before .before .loop-test .taken) (c .before .before .before .before .before .before .pre))
-
-add-i : tie.Need-add-i Inv-loop μ-loop
-add-i c = search needs
-
-loop-less : tie.Need-loop-less Inv-loop μ-loop
-loop-less c = search needs
 
 loop-again : tie.Need-loop-again Inv-loop μ-loop
 loop-again c =
@@ -52,11 +37,11 @@ encode-row-spec =
     Inv-loop
     μ-loop
     loop-holds
-    mul-write
-    shared-slice-read-write
+    (λ c. search needs)
+    (λ c. search needs)
     write-requires
-    add-i
-    loop-less
+    (λ c. search needs)
+    (λ c. search needs)
     loop-again
     same-length
     returns)

@@ -8,10 +8,6 @@ use Rattle.book.specs.RowLaws.{Turns, turns-none, turns-more, turns-stop
 use borrow.Author.Needs.{needs}
 use Rattle.book.proofs.cells.head_row.Statement.{statement}
 use Rattle.book.proofs.cells.head_row.Tie as tie
-use Rattle.book.proofs.cells.head_row.Reads as reads
-use Rattle.book.proofs.cells.head_row.Lts as lts
-use Rattle.book.proofs.cells.cell_at.Reads as cell-at-reads
-use Rattle.book.proofs.range.admit_head.Reads as admit-head-reads
 
 abbrev Inv-loop : tie.InvT-loop
 Inv-loop cells at₀ i₀ at i = (i ≤ 5) × Turns (cellAt cells) (headFault) 5 0 i at
@@ -22,28 +18,10 @@ abbrev μ-loop : tie.MeasureT-loop
 loop-holds : tie.Need-loop-holds Inv-loop μ-loop
 loop-holds c = (omega arith, turns-none)
 
-cell-at-requires : tie.Need-cell-at-requires Inv-loop μ-loop
-cell-at-requires c κs = search needs
-
-admit-head-requires : tie.Need-admit-head-requires Inv-loop μ-loop
-admit-head-requires c κs = search needs
-
-enum-known-found : tie.Need-enum-known-found Inv-loop μ-loop
-enum-known-found c = search needs
-
-enum-told : tie.Need-enum-told Inv-loop μ-loop
-enum-told c = search needs
-
 returns : tie.Need-returns Inv-loop μ-loop
 returns c =
     let e = c .enum-told .given .1 in
     (e ∙ turns-stop (c .before .before .before .before .before .loop .inv .1) (c .before .before .before .before .loop-test .taken) (sym (rw (c .before .before .before .cell-at .ensures) at (c .before .before .admit-head .ensures)) ∙ e))
-
-add-i : tie.Need-add-i Inv-loop μ-loop
-add-i c = search needs
-
-loop-less : tie.Need-loop-less Inv-loop μ-loop
-loop-less c = search needs
 
 loop-again : tie.Need-loop-again Inv-loop μ-loop
 loop-again c = (omega arith, turns-more (c .before .before .before .before .before .before .loop .inv .1) (c .before .before .before .before .before .loop-test .taken) (sym (rw (c .before .before .before .before .cell-at .ensures) at (c .before .before .before .admit-head .ensures)) ∙ c .before .found .given .1))
@@ -58,12 +36,12 @@ head-row-spec =
     Inv-loop
     μ-loop
     loop-holds
-    cell-at-requires
-    admit-head-requires
-    enum-known-found
-    enum-told
+    (λ c κs. search needs)
+    (λ c κs. search needs)
+    (λ c. search needs)
+    (λ c. search needs)
     returns
-    add-i
-    loop-less
+    (λ c. search needs)
+    (λ c. search needs)
     loop-again
     returns-2)

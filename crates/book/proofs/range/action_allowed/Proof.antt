@@ -4,34 +4,10 @@ use Rattle.book.specs.Range.{allowed}
 use borrow.Author.Needs.{needs}
 use Rattle.book.proofs.range.action_allowed.Statement.{statement}
 use Rattle.book.proofs.range.action_allowed.Tie as tie
-use Rattle.book.proofs.range.action_allowed.Reads as reads
-use Rattle.book.proofs.range.action_allowed.Lts as lts
-use Rattle.book.proofs.actions.decode.Reads as decode-reads
-
-decode-requires : tie.Need-decode-requires
-decode-requires c κs = search needs
-
-enum-told : tie.Need-enum-told
-enum-told c = search needs
-
-enum-told-2 : tie.Need-enum-told-2
-enum-told-2 c = search needs
-
-enum-known-s : tie.Need-enum-known-s
-enum-known-s c = search needs
 
 returns : tie.Need-returns
 unfolding allowed
 returns c = rw (← c .before .before .before .before .decode .ensures, c .before .before .s .given .1, eq-eqb _ _ (c .if1 .taken))
-
-cast-result : tie.Need-cast-result
-cast-result c = search needs
-
-enum-known-p : tie.Need-enum-known-p
-enum-known-p c = search needs
-
-cast-result-2 : tie.Need-cast-result-2
-cast-result-2 c = search needs
 
 returns-2 : tie.Need-returns-2
 unfolding allowed
@@ -54,14 +30,14 @@ pub action-allowed-spec : {M : Type 1} → statement M
 action-allowed-spec =
     tie.close
     (tie.spec
-    decode-requires
-    enum-told
-    enum-told-2
-    enum-known-s
+    (λ c κs. search needs)
+    (λ c. search needs)
+    (λ c. search needs)
+    (λ c. search needs)
     returns
-    cast-result
-    enum-known-p
-    cast-result-2
+    (λ c. search needs)
+    (λ c. search needs)
+    (λ c. search needs)
     returns-2
     returns-3
     returns-4

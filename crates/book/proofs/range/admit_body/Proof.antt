@@ -2,10 +2,6 @@
 use borrow.Author.Needs.{needs}
 use Rattle.book.proofs.range.admit_body.Statement.{statement}
 use Rattle.book.proofs.range.admit_body.Tie as tie
-use Rattle.book.proofs.range.admit_body.Reads as reads
-use Rattle.book.proofs.range.admit_body.Lts as lts
-use Rattle.book.proofs.range.admit.Reads as admit-reads
-use Rattle.book.proofs.range.body_fault.Reads as body-fault-reads
 
 enum-known-found : tie.Need-enum-known-found
 enum-known-found c = search needs

@@ -2,10 +2,6 @@
 use borrow.Author.Needs.{needs}
 use Rattle.book.proofs.range.admit_head.Statement.{statement}
 use Rattle.book.proofs.range.admit_head.Tie as tie
-use Rattle.book.proofs.range.admit_head.Reads as reads
-use Rattle.book.proofs.range.admit_head.Lts as lts
-use Rattle.book.proofs.range.admit.Reads as admit-reads
-use Rattle.book.proofs.range.head_fault.Reads as head-fault-reads
 
 enum-known-found : tie.Need-enum-known-found
 enum-known-found c = search needs

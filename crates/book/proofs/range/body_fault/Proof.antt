@@ -3,9 +3,6 @@ use Rattle.book.specs.Range.{bodyFault}
 use borrow.Author.Needs.{needs}
 use Rattle.book.proofs.range.body_fault.Statement.{statement}
 use Rattle.book.proofs.range.body_fault.Tie as tie
-use Rattle.book.proofs.range.body_fault.Reads as reads
-use Rattle.book.proofs.range.body_fault.Lts as lts
-use Rattle.book.proofs.range.in_range.Reads as in-range-reads
 
 in-range-requires : tie.Need-in-range-requires
 in-range-requires c κs = search needs

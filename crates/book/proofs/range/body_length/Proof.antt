@@ -4,8 +4,6 @@ use Rattle.book.specs.RangeLaws.{actions-few, gotos-few}
 use borrow.Author.Needs.{needs}
 use Rattle.book.proofs.range.body_length.Statement.{statement}
 use Rattle.book.proofs.range.body_length.Tie as tie
-use Rattle.book.proofs.range.body_length.Reads as reads
-use Rattle.book.proofs.range.body_length.Lts as lts
 
 mul-result : tie.Need-mul-result
 mul-result c = search needs

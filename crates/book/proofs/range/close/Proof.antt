@@ -3,8 +3,6 @@ use borrow.Author.Tests.{lt-ltb, le-ltb}
 use borrow.Author.Needs.{needs}
 use Rattle.book.proofs.range.close.Statement.{statement}
 use Rattle.book.proofs.range.close.Tie as tie
-use Rattle.book.proofs.range.close.Reads as reads
-use Rattle.book.proofs.range.close.Lts as lts
 
 enum-known-last : tie.Need-enum-known-last
 enum-known-last c = search needs

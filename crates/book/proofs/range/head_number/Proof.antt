@@ -2,8 +2,6 @@
 use borrow.Author.Tests.{eq-eqb, ne-eqb}
 use Rattle.book.proofs.range.head_number.Statement.{statement}
 use Rattle.book.proofs.range.head_number.Tie as tie
-use Rattle.book.proofs.range.head_number.Reads as reads
-use Rattle.book.proofs.range.head_number.Lts as lts
 
 returns : tie.Need-returns
 returns c = rw (eq-eqb _ _ (c .if1 .taken))

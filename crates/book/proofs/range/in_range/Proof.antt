@@ -6,12 +6,6 @@ use Rattle.book.specs.RangeLaws.{actions-few}
 use borrow.Author.Needs.{needs}
 use Rattle.book.proofs.range.in_range.Statement.{statement}
 use Rattle.book.proofs.range.in_range.Tie as tie
-use Rattle.book.proofs.range.in_range.Reads as reads
-use Rattle.book.proofs.range.in_range.Lts as lts
-use Rattle.book.proofs.range.action_allowed.Reads as action-allowed-reads
-
-mul-actions : tie.Need-mul-actions
-mul-actions c = search needs
 
 returns : tie.Need-returns
 unfolding fits
@@ -27,12 +21,6 @@ mul-if3 c = omega (arith, actions-few _ (c .before .before .before .pre))
 add-if3 : tie.Need-add-if3
 add-if3 c = omega (arith, actions-few _ (c .before .before .before .pre))
 
-rem-action-allowed : tie.Need-rem-action-allowed
-rem-action-allowed c = search needs
-
-action-allowed-requires : tie.Need-action-allowed-requires
-action-allowed-requires c κs = search needs
-
 returns-3 : tie.Need-returns-3
 unfolding fits
 returns-3 c = rw (le-ltb _ _ (c .before .before .before .if1 .left), lt-ltb _ _ (c .before .if3 .taken)) (c .action-allowed .ensures)
@@ -45,12 +33,12 @@ pub in-range-spec : {M : Type 1} → statement M
 in-range-spec =
     tie.close
     (tie.spec
-    mul-actions
+    (λ c. search needs)
     returns
     returns-2
     mul-if3
     add-if3
-    rem-action-allowed
-    action-allowed-requires
+    (λ c. search needs)
+    (λ c κs. search needs)
     returns-3
     returns-4)

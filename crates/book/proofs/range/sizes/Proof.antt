@@ -4,29 +4,15 @@ use borrow.Author.Needs.{needs}
 use Rattle.book.specs.Tables.{sizesOf}
 use Rattle.book.proofs.range.sizes.Statement.{statement}
 use Rattle.book.proofs.range.sizes.Tie as tie
-use Rattle.book.proofs.range.sizes.Reads as reads
-use Rattle.book.proofs.range.sizes.Lts as lts
-
-shared-slice-read-t3 : tie.Need-shared-slice-read-t3
-shared-slice-read-t3 c = search needs
 
 cast-t4 : tie.Need-cast-t4
 cast-t4 c = omega (arith, c .shared-slice-known .given 1)
 
-shared-slice-read-t6 : tie.Need-shared-slice-read-t6
-shared-slice-read-t6 c = search needs
-
 cast-t7 : tie.Need-cast-t7
 cast-t7 c = omega (arith, c .shared-slice-known2 .given 2)
 
-shared-slice-read-t9 : tie.Need-shared-slice-read-t9
-shared-slice-read-t9 c = search needs
-
 cast-t10 : tie.Need-cast-t10
 cast-t10 c = omega (arith, c .shared-slice-known3 .given 3)
-
-shared-slice-read-t12 : tie.Need-shared-slice-read-t12
-shared-slice-read-t12 c = search needs
 
 cast-t13 : tie.Need-cast-t13
 cast-t13 c = omega (arith, c .shared-slice-known4 .given 4)
@@ -39,12 +25,12 @@ pub sizes-spec : {M : Type 1} → statement M
 sizes-spec =
     tie.close
     (tie.spec
-    shared-slice-read-t3
+    (λ c. search needs)
     cast-t4
-    shared-slice-read-t6
+    (λ c. search needs)
     cast-t7
-    shared-slice-read-t9
+    (λ c. search needs)
     cast-t10
-    shared-slice-read-t12
+    (λ c. search needs)
     cast-t13
     returns)

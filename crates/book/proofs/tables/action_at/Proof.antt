@@ -6,15 +6,6 @@ use Rattle.book.specs.TablesLaws.{act-inside}
 use borrow.Author.Needs.{needs}
 use Rattle.book.proofs.tables.action_at.Statement.{statement}
 use Rattle.book.proofs.tables.action_at.Tie as tie
-use Rattle.book.proofs.tables.action_at.Reads as reads
-use Rattle.book.proofs.tables.action_at.Lts as lts
-use Rattle.book.proofs.actions.decode.Reads as decode-reads
-
-mul-decode : tie.Need-mul-decode
-mul-decode c = search needs
-
-add-decode : tie.Need-add-decode
-add-decode c = search needs
 
 mul-decode-2 : tie.Need-mul-decode-2
 mul-decode-2 c = omega (arith, index-below (c .before .args .d .s) (c .before .args .d .t) (c .before .args .q) (c .before .args .a) (omega arith) (omega arith))
@@ -31,9 +22,6 @@ mul-decode-3 c = omega (arith, index-below (c .before .args .d .s) (c .before .a
 shared-slice-read-decode : tie.Need-shared-slice-read-decode
 shared-slice-read-decode c = omega (arith, index-below (c .before .before .args .d .s) (c .before .before .args .d .t) (c .before .before .args .q) (c .before .before .args .a) (omega arith) (omega arith))
 
-decode-requires : tie.Need-decode-requires
-decode-requires c κs = search needs
-
 returns : tie.Need-returns
 returns c = c .decode .ensures ∙ sym (act-inside (c .before .before .before .pre .0) _ _ (c .before .before .before .pre .1 .0) (c .before .before .before .pre .1 .1))
 
@@ -41,12 +29,12 @@ pub action-at-spec : {M : Type 1} → statement M
 action-at-spec =
     tie.close
     (tie.spec
-    mul-decode
-    add-decode
+    (λ c. search needs)
+    (λ c. search needs)
     mul-decode-2
     add-decode-2
     add-decode-3
     mul-decode-3
     shared-slice-read-decode
-    decode-requires
+    (λ c κs. search needs)
     returns)

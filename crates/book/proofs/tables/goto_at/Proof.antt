@@ -7,20 +7,6 @@ use Rattle.book.specs.TablesLaws.{goto-inside}
 use borrow.Author.Needs.{needs}
 use Rattle.book.proofs.tables.goto_at.Statement.{statement}
 use Rattle.book.proofs.tables.goto_at.Tie as tie
-use Rattle.book.proofs.tables.goto_at.Reads as reads
-use Rattle.book.proofs.tables.goto_at.Lts as lts
-
-mul-result : tie.Need-mul-result
-mul-result c = search needs
-
-add-result : tie.Need-add-result
-add-result c = search needs
-
-mul-result-2 : tie.Need-mul-result-2
-mul-result-2 c = search needs
-
-add-result-2 : tie.Need-add-result-2
-add-result-2 c = search needs
 
 mul-result-3 : tie.Need-mul-result-3
 mul-result-3 c = omega (arith, index-below (c .args .d .s) (c .args .d .n) (c .args .q) (c .args .x) (omega arith) (omega arith), actions-few _ (c .pre .0 .small))
@@ -44,10 +30,10 @@ pub goto-at-spec : {M : Type 1} → statement M
 goto-at-spec =
     tie.close
     (tie.spec
-    mul-result
-    add-result
-    mul-result-2
-    add-result-2
+    (λ c. search needs)
+    (λ c. search needs)
+    (λ c. search needs)
+    (λ c. search needs)
     mul-result-3
     add-result-3
     add-result-4

@@ -4,8 +4,6 @@ use Rattle.book.specs.Tables.{tablesOf}
 use borrow.Author.Needs.{needs}
 use Rattle.book.proofs.tables.left_side.Statement.{statement}
 use Rattle.book.proofs.tables.left_side.Tie as tie
-use Rattle.book.proofs.tables.left_side.Reads as reads
-use Rattle.book.proofs.tables.left_side.Lts as lts
 
 mul-result : tie.Need-mul-result
 mul-result c = search needs

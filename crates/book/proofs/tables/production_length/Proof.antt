@@ -4,8 +4,6 @@ use Rattle.book.specs.Tables.{tablesOf}
 use borrow.Author.Needs.{needs}
 use Rattle.book.proofs.tables.production_length.Statement.{statement}
 use Rattle.book.proofs.tables.production_length.Tie as tie
-use Rattle.book.proofs.tables.production_length.Reads as reads
-use Rattle.book.proofs.tables.production_length.Lts as lts
 
 mul-result : tie.Need-mul-result
 mul-result c = search needs

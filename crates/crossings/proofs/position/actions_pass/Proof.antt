@@ -9,9 +9,6 @@ use Rattle.crossings.specs.Position.{BarredAction}
 use Rattle.crossings.specs.PositionLaws.{each-more}
 use Rattle.crossings.proofs.position.actions_pass.Statement.{statement}
 use Rattle.crossings.proofs.position.actions_pass.Tie as tie
-use Rattle.crossings.proofs.position.actions_pass.Reads as reads
-use Rattle.crossings.proofs.position.actions_pass.Lts as lts
-use Rattle.crossings.proofs.position.action_passes.Reads as action-passes-reads
 
 abbrev Inv-loop : tie.InvT-loop
 Inv-loop cells d positions n q t z₀ z = (z ≤ t) × ((j : ℕ) → j < z → BarredAction (tablesOf cells) positions n q j)
@@ -28,12 +25,6 @@ action-passes-requires c κs = (c .before .before .before .pre .0, (c .before .b
 returns : tie.Need-returns Inv-loop μ-loop
 returns c = λ e. absurd (false≢true (sym e))
 
-add-z : tie.Need-add-z Inv-loop μ-loop
-add-z c = search needs
-
-loop-less : tie.Need-loop-less Inv-loop μ-loop
-loop-less c = search needs
-
 loop-again : tie.Need-loop-again Inv-loop μ-loop
 loop-again c = (omega arith, each-more (c .before .before .before .loop .inv .1) (c .before .action-passes .ensures (c .if1 .left)))
 
@@ -49,7 +40,7 @@ actions-pass-spec =
     loop-holds
     action-passes-requires
     returns
-    add-z
-    loop-less
+    (λ c. search needs)
+    (λ c. search needs)
     loop-again
     returns-2)

@@ -8,8 +8,6 @@ use Rattle.crossings.specs.Position.{Copied}
 use Rattle.crossings.specs.PositionLaws.{copied-more}
 use Rattle.crossings.proofs.position.copy_row.Statement.{statement}
 use Rattle.crossings.proofs.position.copy_row.Tie as tie
-use Rattle.crossings.proofs.position.copy_row.Reads as reads
-use Rattle.crossings.proofs.position.copy_row.Lts as lts
 
 abbrev Inv-loop : tie.InvT-loop
 Inv-loop positions n wanted₀ row q₀ wanted q = (q ≤ 128) × Copied positions n q wanted
@@ -17,26 +15,11 @@ Inv-loop positions n wanted₀ row q₀ wanted q = (q ≤ 128) × Copied positio
 abbrev μ-loop : tie.MeasureT-loop
 μ-loop positions n wanted₀ row q₀ wanted q = 128 - q
 
-mul-row : tie.Need-mul-row Inv-loop μ-loop
-mul-row c = search needs
-
 loop-holds : tie.Need-loop-holds Inv-loop μ-loop
 loop-holds c = (omega arith, record { size = c .pre .1; same = λ q h. absurd (omega arith) })
 
-add-wanted : tie.Need-add-wanted Inv-loop μ-loop
-add-wanted c = search needs
-
-element-copy-out-wanted : tie.Need-element-copy-out-wanted Inv-loop μ-loop
-element-copy-out-wanted c = search needs
-
 element-write-wanted : tie.Need-element-write-wanted Inv-loop μ-loop
 element-write-wanted c = omega (arith, c .before .before .loop .inv .1 .size)
-
-add-q : tie.Need-add-q Inv-loop μ-loop
-add-q c = search needs
-
-loop-less : tie.Need-loop-less Inv-loop μ-loop
-loop-less c = search needs
 
 loop-again : tie.Need-loop-again Inv-loop μ-loop
 loop-again c = (omega arith, copied-more (c .before .loop-test .taken) refl (c .before .before .loop .inv .1))
@@ -50,12 +33,12 @@ copy-row-spec =
     (tie.spec
     Inv-loop
     μ-loop
-    mul-row
+    (λ c. search needs)
     loop-holds
-    add-wanted
-    element-copy-out-wanted
+    (λ c. search needs)
+    (λ c. search needs)
     element-write-wanted
-    add-q
-    loop-less
+    (λ c. search needs)
+    (λ c. search needs)
     loop-again
     returns)

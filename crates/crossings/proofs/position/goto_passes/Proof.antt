@@ -6,10 +6,6 @@ use Rattle.layers.specs.CrossingLaws.{goto-least}
 use borrow.Author.Needs.{needs}
 use Rattle.crossings.proofs.position.goto_passes.Statement.{statement}
 use Rattle.crossings.proofs.position.goto_passes.Tie as tie
-use Rattle.crossings.proofs.position.goto_passes.Reads as reads
-use Rattle.crossings.proofs.position.goto_passes.Lts as lts
-use Rattle.book.proofs.goto_at.Reads as goto-at-reads
-use Rattle.crossings.proofs.position.marked.Reads as marked-reads
 
 goto-at-requires : tie.Need-goto-at-requires
 goto-at-requires c κs = search needs

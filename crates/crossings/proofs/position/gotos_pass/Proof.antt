@@ -9,9 +9,6 @@ use Rattle.crossings.specs.Position.{BarredGoto}
 use Rattle.crossings.specs.PositionLaws.{each-more}
 use Rattle.crossings.proofs.position.gotos_pass.Statement.{statement}
 use Rattle.crossings.proofs.position.gotos_pass.Tie as tie
-use Rattle.crossings.proofs.position.gotos_pass.Reads as reads
-use Rattle.crossings.proofs.position.gotos_pass.Lts as lts
-use Rattle.crossings.proofs.position.goto_passes.Reads as goto-passes-reads
 
 abbrev Inv-loop : tie.InvT-loop
 Inv-loop cells d positions n q m x₀ x = (x ≤ m) × ((j : ℕ) → j < x → BarredGoto (tablesOf cells) positions n q j)
@@ -28,12 +25,6 @@ goto-passes-requires c κs = (c .before .before .before .pre .0, (c .before .bef
 returns : tie.Need-returns Inv-loop μ-loop
 returns c = λ e. absurd (false≢true (sym e))
 
-add-x : tie.Need-add-x Inv-loop μ-loop
-add-x c = search needs
-
-loop-less : tie.Need-loop-less Inv-loop μ-loop
-loop-less c = search needs
-
 loop-again : tie.Need-loop-again Inv-loop μ-loop
 loop-again c = (omega arith, each-more (c .before .before .before .loop .inv .1) (c .before .goto-passes .ensures (c .if1 .left)))
 
@@ -49,7 +40,7 @@ gotos-pass-spec =
     loop-holds
     goto-passes-requires
     returns
-    add-x
-    loop-less
+    (λ c. search needs)
+    (λ c. search needs)
     loop-again
     returns-2)

@@ -5,9 +5,6 @@ use borrow.Author.Tests.{not-true}
 use borrow.Author.Needs.{needs}
 use Rattle.crossings.proofs.position.mark.Statement.{statement}
 use Rattle.crossings.proofs.position.mark.Tie as tie
-use Rattle.crossings.proofs.position.mark.Reads as reads
-use Rattle.crossings.proofs.position.mark.Lts as lts
-use Rattle.crossings.proofs.position.passes.Reads as passes-reads
 
 returns : tie.Need-returns
 returns c = positions-kept (c .before .before .args .k) (c .before .before .pre .1 .1) (c .before .before .pre .0 .small .states) (λ h. absurd (omega (arith, h, c .if1 .taken)))

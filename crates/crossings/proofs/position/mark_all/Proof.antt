@@ -9,9 +9,6 @@ use Rattle.crossings.specs.Position.{Positions}
 use Rattle.crossings.specs.PositionLaws.{pred-more}
 use Rattle.crossings.proofs.position.mark_all.Statement.{statement}
 use Rattle.crossings.proofs.position.mark_all.Tie as tie
-use Rattle.crossings.proofs.position.mark_all.Reads as reads
-use Rattle.crossings.proofs.position.mark_all.Lts as lts
-use Rattle.crossings.proofs.position.mark.Reads as mark-reads
 
 abbrev Inv-loop : tie.InvT-loop
 Inv-loop cells d positions₀ k₀ positions k = (k ≤ 4096) × Positions d (tablesOf cells) k positions

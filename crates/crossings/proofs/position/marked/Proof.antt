@@ -5,8 +5,6 @@ use borrow.Author.Tests.{eqb-true, not-false}
 use borrow.Author.Needs.{needs}
 use Rattle.crossings.proofs.position.marked.Statement.{statement}
 use Rattle.crossings.proofs.position.marked.Tie as tie
-use Rattle.crossings.proofs.position.marked.Reads as reads
-use Rattle.crossings.proofs.position.marked.Lts as lts
 
 returns : tie.Need-returns
 returns c = λ e. position-none (c .before .args .positions .now) (c .before .args .n) (c .before .args .q) (c .before .pre .2) (omega (arith, c .if1 .taken))

@@ -5,10 +5,6 @@ use mathlib.Core.Bool.{false≢true}
 use borrow.Author.Needs.{needs}
 use Rattle.crossings.proofs.position.passes.Statement.{statement}
 use Rattle.crossings.proofs.position.passes.Tie as tie
-use Rattle.crossings.proofs.position.passes.Reads as reads
-use Rattle.crossings.proofs.position.passes.Lts as lts
-use Rattle.crossings.proofs.position.actions_pass.Reads as actions-pass-reads
-use Rattle.crossings.proofs.position.gotos_pass.Reads as gotos-pass-reads
 
 actions-pass-requires : tie.Need-actions-pass-requires
 actions-pass-requires c κs = search needs

@@ -8,9 +8,6 @@ use Rattle.crossings.specs.CrossingsLaws.{longest-more}
 use borrow.Author.Needs.{needs}
 use Rattle.crossings.proofs.production.longest.Statement.{statement}
 use Rattle.crossings.proofs.production.longest.Tie as tie
-use Rattle.crossings.proofs.production.longest.Reads as reads
-use Rattle.crossings.proofs.production.longest.Lts as lts
-use Rattle.crossings.proofs.production.longer.Reads as longer-reads
 
 abbrev Inv-loop : tie.InvT-loop
 Inv-loop cells d q n r₀ p₀ r p = (p ≤ n) × Longest (tablesOf cells) q p r

@@ -8,28 +8,9 @@ use Rattle.crossings.specs.ReductionLaws.{left-below, reduced, settled-l
 use borrow.Author.Needs.{needs}
 use Rattle.crossings.proofs.reduction.cross.Statement.{statement}
 use Rattle.crossings.proofs.reduction.cross.Tie as tie
-use Rattle.crossings.proofs.reduction.cross.Reads as reads
-use Rattle.crossings.proofs.reduction.cross.Lts as lts
-use Rattle.book.proofs.goto_at.Reads as goto-at-reads
-use Rattle.book.proofs.left_side.Reads as left-side-reads
-use Rattle.book.proofs.production_length.Reads as production-length-reads
-use Rattle.crossings.proofs.reduction.lower.Reads as lower-reads
-use Rattle.layers.proofs.crossing_row.Reads as crossing-row-reads
-
-production-length-requires : tie.Need-production-length-requires
-production-length-requires c κs = search needs
-
-cast-if1 : tie.Need-cast-if1
-cast-if1 c = search needs
 
 returns : tie.Need-returns
 returns c = pass-none (c .before .before .before .before .pre .1 .1 .0) (settled-length (c .before .before .before .before .pre .0) _ _ _ _ _ _ (c .before .before .before .before .pre .1 .1 .0) (c .before .before .before .before .pre .1 .0 .1) (c .before .before .before .before .pre .1 .0 .2) _ (c .before .before .before .before .pre .1 .1 .1 .0) (λ e. c .if1 .taken (c .before .production-length .ensures ∙ e)))
-
-left-side-requires : tie.Need-left-side-requires
-left-side-requires c κs = search needs
-
-cast-x : tie.Need-cast-x
-cast-x c = search needs
 
 goto-at-requires : tie.Need-goto-at-requires
 goto-at-requires c κs = (c .before .before .before .before .before .pre .0, (c .before .before .before .before .before .pre .1 .0 .0, omega (arith, c .left-side .ensures, left-below (c .before .before .before .before .before .pre .0) (c .before .before .before .before .before .args .p) (c .before .before .before .before .before .pre .1 .0 .3))))
@@ -46,9 +27,6 @@ add-k c = omega (arith, c .crossing-row .ensures, crossing-row-small (c .before 
 lower-requires : tie.Need-lower-requires
 lower-requires c κs = omega (arith, c .before .crossing-row .ensures, crossing-row-below (c .before .before .before .before .before .before .before .before .before .args .d) (c .before .before .before .before .before .before .before .before .before .args .q) (c .before .before .before .before .left-side .result) (c .before .before .before .before .before .before .before .before .before .args .a) (c .before .before .before .before .before .before .before .before .before .pre .1 .0 .0) (omega (arith, c .before .before .before .before .left-side .ensures, left-below (c .before .before .before .before .before .before .before .before .before .pre .0) (c .before .before .before .before .before .before .before .before .before .args .p) (c .before .before .before .before .before .before .before .before .before .pre .1 .0 .3))) (c .before .before .before .before .before .before .before .before .before .pre .1 .0 .1), c .before .before .before .before .before .before .before .before .before .pre .1 .1 .0 .fits)
 
-same-length : tie.Need-same-length
-same-length c = search needs
-
 returns-3 : tie.Need-returns-3
 returns-3 c = reduced (c .before .before .before .before .before .before .before .before .before .before .before .before .pre .0) (c .before .before .before .before .before .before .before .before .before .before .before .before .args .p) (c .before .before .before .before .before .before .goto-at .result - 1) (c .before .before .before .before .before .before .before .before .before .before .before .before .pre .1 .1 .0) (c .before .before .before .before .before .before .before .before .before .before .before .before .pre .1 .0 .1) (c .before .before .before .before .before .before .before .before .before .before .before .before .pre .1 .0 .2) (c .before .before .before .before .before .before .before .before .before .before .before .before .pre .1 .1 .1 .0) (sym (c .before .before .before .before .before .before .before .before .before .production-length .ensures) ∙ c .before .before .before .before .before .before .before .before .if1 .left) (omega (arith, c .before .before .before .before .before .if2 .left, rw (c .before .before .before .before .before .before .before .left-side .ensures) at (c .before .before .before .before .before .before .goto-at .ensures))) (c .before .before .before .before .before .before .before .before .before .before .before .before .pre .1 .1 .1 .1) (rw (c .before .before .before .before .crossing-row .ensures, c .before .before .before .before .before .before .before .left-side .ensures) at (c .before .before .lower .ensures))
 
@@ -56,15 +34,15 @@ pub cross-spec : {M : Type 1} → statement M
 cross-spec =
     tie.close
     (tie.spec
-    production-length-requires
-    cast-if1
+    (λ c κs. search needs)
+    (λ c. search needs)
     returns
-    left-side-requires
-    cast-x
+    (λ c κs. search needs)
+    (λ c. search needs)
     goto-at-requires
     returns-2
     crossing-row-requires
     add-k
     lower-requires
-    same-length
+    (λ c. search needs)
     returns-3)

@@ -4,8 +4,6 @@ use Rattle.crossings.specs.Pass.{kept, stored}
 use borrow.Author.Needs.{needs}
 use Rattle.crossings.proofs.reduction.lower.Statement.{statement}
 use Rattle.crossings.proofs.reduction.lower.Tie as tie
-use Rattle.crossings.proofs.reduction.lower.Reads as reads
-use Rattle.crossings.proofs.reduction.lower.Lts as lts
 
 mul-if1 : tie.Need-mul-if1
 mul-if1 c = search needs

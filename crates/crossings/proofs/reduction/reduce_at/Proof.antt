@@ -7,37 +7,12 @@ use Rattle.crossings.specs.ReductionLaws.{settled-far, settled-error, se
 use borrow.Author.Needs.{needs}
 use Rattle.crossings.proofs.reduction.reduce_at.Statement.{statement}
 use Rattle.crossings.proofs.reduction.reduce_at.Tie as tie
-use Rattle.crossings.proofs.reduction.reduce_at.Reads as reads
-use Rattle.crossings.proofs.reduction.reduce_at.Lts as lts
-use Rattle.book.proofs.action_at.Reads as action-at-reads
-use Rattle.crossings.proofs.reduction.cross.Reads as cross-reads
 
 returns : tie.Need-returns
 returns c = pass-none (c .before .before .before .pre .1 .1 .0) (settled-far (c .before .before .before .pre .0) _ _ _ _ _ _ (c .before .before .before .pre .1 .1 .0) (c .before .before .before .pre .1 .0 .1) (c .before .before .before .pre .1 .0 .3) (c .if1 .taken))
 
-action-at-requires : tie.Need-action-at-requires
-action-at-requires c κs = search needs
-
-enum-known-p : tie.Need-enum-known-p
-enum-known-p c = search needs
-
-cast-cross : tie.Need-cast-cross
-cast-cross c = search needs
-
 cross-requires : tie.Need-cross-requires
 cross-requires c κs = (c .before .before .before .before .before .before .before .before .pre .0, ((c .before .before .before .before .before .before .before .before .pre .1 .0 .0, c .before .before .before .before .before .before .before .before .pre .1 .0 .1, c .before .before .before .before .before .before .before .before .pre .1 .0 .3, reduce-below _ _ (c .before .before .before .before .before .before .before .before .pre .0) (sym (c .before .before .before .before .action-at .ensures) ∙ c .before .before .p .given .1)), (c .before .before .before .before .before .before .before .before .pre .1 .1 .0, ((sym (c .before .before .before .before .action-at .ensures) ∙ c .before .before .p .given .1), c .before .before .before .before .before .before .before .before .pre .1 .1 .1))))
-
-enum-told : tie.Need-enum-told
-enum-told c = search needs
-
-enum-told-2 : tie.Need-enum-told-2
-enum-told-2 c = search needs
-
-enum-told-3 : tie.Need-enum-told-3
-enum-told-3 c = search needs
-
-same-length : tie.Need-same-length
-same-length c = search needs
 
 returns-2 : tie.Need-returns-2
 returns-2 c = c .before .before .cross .ensures
@@ -56,14 +31,14 @@ reduce-at-spec =
     tie.close
     (tie.spec
     returns
-    action-at-requires
-    enum-known-p
-    cast-cross
+    (λ c κs. search needs)
+    (λ c. search needs)
+    (λ c. search needs)
     cross-requires
-    enum-told
-    enum-told-2
-    enum-told-3
-    same-length
+    (λ c. search needs)
+    (λ c. search needs)
+    (λ c. search needs)
+    (λ c. search needs)
     returns-2
     returns-3
     returns-4

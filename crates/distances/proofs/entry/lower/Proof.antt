@@ -4,8 +4,6 @@ use Rattle.crossings.specs.Pass.{kept, stored}
 use borrow.Author.Needs.{needs}
 use Rattle.distances.proofs.entry.lower.Statement.{statement}
 use Rattle.distances.proofs.entry.lower.Tie as tie
-use Rattle.distances.proofs.entry.lower.Reads as reads
-use Rattle.distances.proofs.entry.lower.Lts as lts
 
 mul-if1 : tie.Need-mul-if1
 mul-if1 c = search needs

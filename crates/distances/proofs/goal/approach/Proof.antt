@@ -9,35 +9,12 @@ use Rattle.distances.specs.GoalLaws.{nearest, nearest-unopened, sooner-a
 use borrow.Author.Needs.{needs}
 use Rattle.distances.proofs.goal.approach.Statement.{statement}
 use Rattle.distances.proofs.goal.approach.Tie as tie
-use Rattle.distances.proofs.goal.approach.Reads as reads
-use Rattle.distances.proofs.goal.approach.Lts as lts
-use Rattle.distances.proofs.entry.lower.Reads as lower-reads
-use Rattle.distances.proofs.transition.toward.Reads as toward-reads
-use Rattle.layers.proofs.opens.Reads as opens-reads
-
-opens-requires : tie.Need-opens-requires
-opens-requires c κs = search needs
 
 returns : tie.Need-returns
 returns c = (pass-none (c .before .before .before .before .pre .1 .1 .1 .0) (nearest-unopened (c .before .before .before .before .pre .0) _ (c .before .before .before .before .pre .1 .1 .0) (c .before .opens .ensures (not-true _ (c .if1 .taken))) (rw (terminals-are (c .before .before .before .before .pre .0)) (c .before .before .before .before .pre .1 .0 .1)) (c .before .before .before .before .pre .1 .1 .1 .0)), c .before .before .before .before .pre .1 .1 .1 .1)
 
-toward-requires : tie.Need-toward-requires
-toward-requires c κs = search needs
-
 returns-2 : tie.Need-returns-2
 returns-2 c = (pass-none (c .before .before .before .before .before .before .before .before .pre .1 .1 .1 .0) (nearest (c .before .before .before .before .before .before .before .before .pre .0) _ (rw (terminals-are (c .before .before .before .before .before .before .before .before .pre .0)) (c .before .before .before .before .before .before .before .before .pre .1 .0 .1)) (c .before .toward .ensures) (le-trans (c .before .before .before .before .before .before .before .before .pre .1 .1 .1 .0 .most _ _ (rw (terminals-are (c .before .before .before .before .before .before .before .before .pre .0)) (c .before .before .before .before .before .before .before .before .pre .1 .0 .1))) (c .if2 .taken))), c .before .before .before .before .before .before .before .before .pre .1 .1 .1 .1)
-
-element-write-flags : tie.Need-element-write-flags
-element-write-flags c = search needs
-
-mul-lower : tie.Need-mul-lower
-mul-lower c = search needs
-
-add-lower : tie.Need-add-lower
-add-lower c = search needs
-
-lower-requires : tie.Need-lower-requires
-lower-requires c κs = search needs
 
 returns-3 : tie.Need-returns-3
 returns-3 c = (pass-store _ _ _ (omega (arith, terminals-are (c .before .before .before .before .before .before .before .before .before .before .pre .0), c .before .before .before .before .before .before .before .before .before .before .pre .0 .small .terminals)) (omega (arith, c .before .before .before .before .before .before .before .before .before .before .pre .1 .0 .0, c .before .before .before .before .before .before .before .before .before .before .pre .0 .small .states)) (rw (terminals-are (c .before .before .before .before .before .before .before .before .before .before .pre .0)) (c .before .before .before .before .before .before .before .before .before .before .pre .1 .0 .1)) (sooner-attained (c .before .before .before .before .before .before .before .before .before .before .pre .0) _ (rw (terminals-are (c .before .before .before .before .before .before .before .before .before .before .pre .0)) (c .before .before .before .before .before .before .before .before .before .before .pre .1 .0 .1)) (c .before .before .before .toward .ensures)) (c .before .before .before .before .before .before .before .before .before .before .pre .1 .1 .1 .0) (λ l. nearest (c .before .before .before .before .before .before .before .before .before .before .pre .0) _ (rw (terminals-are (c .before .before .before .before .before .before .before .before .before .before .pre .0)) (c .before .before .before .before .before .before .before .before .before .before .pre .1 .0 .1)) (c .before .before .before .toward .ensures) l) (c .lower .ensures), marked-store (c .before .before .before .before .before .before .before .before .before .before .pre .1 .1 .1 .1) _ _ _ (c .before .before .before .before .before .before .before .before .before .before .pre .0 .small .terminals) (omega (arith, c .before .before .before .before .before .before .before .before .before .before .pre .1 .0 .0, c .before .before .before .before .before .before .before .before .before .before .pre .0 .small .states)) (c .before .before .before .before .before .before .before .before .before .before .pre .1 .0 .1) (c .lower .ensures))
@@ -46,12 +23,12 @@ pub approach-spec : {M : Type 1} → statement M
 approach-spec =
     tie.close
     (tie.spec
-    opens-requires
+    (λ c κs. search needs)
     returns
-    toward-requires
+    (λ c κs. search needs)
     returns-2
-    element-write-flags
-    mul-lower
-    add-lower
-    lower-requires
+    (λ c. search needs)
+    (λ c. search needs)
+    (λ c. search needs)
+    (λ c κs. search needs)
     returns-3)

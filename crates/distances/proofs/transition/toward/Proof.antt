@@ -4,10 +4,6 @@ use Rattle.layers.specs.StepLaws.{step-join}
 use borrow.Author.Needs.{needs}
 use Rattle.distances.proofs.transition.toward.Statement.{statement}
 use Rattle.distances.proofs.transition.toward.Tie as tie
-use Rattle.distances.proofs.transition.toward.Reads as reads
-use Rattle.distances.proofs.transition.toward.Lts as lts
-use Rattle.distances.proofs.transition.toward_gotos.Reads as toward-gotos-reads
-use Rattle.distances.proofs.transition.toward_shift.Reads as toward-shift-reads
 
 toward-shift-requires : tie.Need-toward-shift-requires
 toward-shift-requires c κs = search needs

@@ -7,26 +7,9 @@ use Rattle.distances.specs.GoalLaws.{to-goto, to-no-goto}
 use borrow.Author.Needs.{needs}
 use Rattle.distances.proofs.transition.toward_goto.Statement.{statement}
 use Rattle.distances.proofs.transition.toward_goto.Tie as tie
-use Rattle.distances.proofs.transition.toward_goto.Reads as reads
-use Rattle.distances.proofs.transition.toward_goto.Lts as lts
-use Rattle.book.proofs.goto_at.Reads as goto-at-reads
-use Rattle.distances.proofs.transition.past_goto.Reads as past-goto-reads
-use Rattle.layers.proofs.crossing_row.Reads as crossing-row-reads
-
-goto-at-requires : tie.Need-goto-at-requires
-goto-at-requires c κs = search needs
 
 returns : tie.Need-returns
 returns c = to-no-goto (c .before .before .before .before .pre .0) (c .before .before .before .before .args .dist .now) _ _ _ _ _ (sym (c .before .goto-at .ensures) ∙ c .if1 .taken)
-
-crossing-row-requires : tie.Need-crossing-row-requires
-crossing-row-requires c κs = search needs
-
-sub-past-goto : tie.Need-sub-past-goto
-sub-past-goto c = search needs
-
-cast-past-goto : tie.Need-cast-past-goto
-cast-past-goto c = search needs
 
 past-goto-requires : tie.Need-past-goto-requires
 past-goto-requires c κs = ((omega (arith, goto-least (c .before .before .before .before .before .pre .0) (c .before .before .before .before .before .args .q) (c .before .before .before .before .before .args .x) (c .before .before .before .before .before .pre .1 .0 .0) (c .before .before .before .before .before .pre .1 .0 .2), c .before .before .goto-at .ensures, c .before .before .before .before .before .pre .0 .small .states), c .before .before .before .before .before .pre .0 .small .terminals, omega (arith, c .before .before .before .before .before .pre .1 .0 .3, c .crossing-row .ensures, crossing-row-below (c .before .before .before .before .before .args .d) (c .before .before .before .before .before .args .q) (c .before .before .before .before .before .args .x) (c .before .before .before .before .before .args .a) (c .before .before .before .before .before .pre .1 .0 .0) (c .before .before .before .before .before .pre .1 .0 .2) (c .before .before .before .before .before .pre .1 .0 .1))), c .before .before .before .before .before .pre .1 .1)
@@ -38,10 +21,10 @@ pub toward-goto-spec : {M : Type 1} → statement M
 toward-goto-spec =
     tie.close
     (tie.spec
-    goto-at-requires
+    (λ c κs. search needs)
     returns
-    crossing-row-requires
-    sub-past-goto
-    cast-past-goto
+    (λ c κs. search needs)
+    (λ c. search needs)
+    (λ c. search needs)
     past-goto-requires
     returns-2)

@@ -3,9 +3,6 @@ use Prim.Native.Nat.{_-_, _≤_}
 use borrow.Author.Needs.{needs}
 use Rattle.distances_test.proofs.map.rows.Statement.{statement}
 use Rattle.distances_test.proofs.map.rows.Tie as tie
-use Rattle.distances_test.proofs.map.rows.Reads as reads
-use Rattle.distances_test.proofs.map.rows.Lts as lts
-use Rattle.distances_test.proofs.map.row.Reads as row-reads
 
 abbrev Inv-loop : tie.InvT-loop
 Inv-loop dist t s q₀ q = q ≤ s

@@ -3,11 +3,6 @@ use Rattle.distances.specs.SingleLaws.{single-goals}
 use borrow.Author.Needs.{needs}
 use Rattle.distances_test.proofs.map.to_last.Statement.{statement}
 use Rattle.distances_test.proofs.map.to_last.Tie as tie
-use Rattle.distances_test.proofs.map.to_last.Reads as reads
-use Rattle.distances_test.proofs.map.to_last.Lts as lts
-use Rattle.distances.proofs.to_goal.Reads as to-goal-reads
-use Rattle.distances.proofs.only.Reads as only-reads
-use Rattle.distances_test.proofs.map.rows.Reads as rows-reads
 
 sub-only : tie.Need-sub-only
 sub-only c = search needs

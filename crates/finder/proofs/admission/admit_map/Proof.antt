@@ -8,20 +8,6 @@ use Rattle.book.specs.RangeLaws.{actions-few}
 use borrow.Author.Needs.{needs}
 use Rattle.finder.proofs.admission.admit_map.Statement.{statement}
 use Rattle.finder.proofs.admission.admit_map.Tie as tie
-use Rattle.finder.proofs.admission.admit_map.Reads as reads
-use Rattle.finder.proofs.admission.admit_map.Lts as lts
-use Rattle.book.proofs.check.Reads as check-reads
-use Rattle.finder.proofs.admission.refuse.Reads as refuse-reads
-use Rattle.finder.proofs.admission.work_cells.Reads as work-cells-reads
-
-check-requires : tie.Need-check-requires
-check-requires c κs = search needs
-
-enum-known-found : tie.Need-enum-known-found
-enum-known-found c = search needs
-
-enum-told : tie.Need-enum-told
-enum-told c = search needs
 
 returns : tie.Need-returns
 unfolding admitsMap
@@ -30,18 +16,12 @@ returns c = rw (sym (c .before .before .check .ensures) ∙ c .enum-told .given 
 work-cells-requires : tie.Need-work-cells-requires
 work-cells-requires c κs = (valid-holds _ _ (sym (c .before .before .before .check .ensures) ∙ c .before .found .given .1) .small)
 
-refuse-requires : tie.Need-refuse-requires
-refuse-requires c κs = search needs
-
 returns-2 : tie.Need-returns-2
 unfolding admitsMap
 returns-2 c = rw (sym (c .before .before .before .before .before .before .check .ensures) ∙ c .before .before .before .before .found .given .1, ← c .before .before .work-cells .ensures, lt-ltb _ _ (c .before .if1 .taken)) (c .refuse .ensures)
 
 mul-if2 : tie.Need-mul-if2
 mul-if2 c = omega (arith, actions-few _ (valid-holds _ _ (sym (c .before .before .before .before .before .before .check .ensures) ∙ c .before .before .before .before .found .given .1) .small))
-
-refuse-requires-2 : tie.Need-refuse-requires-2
-refuse-requires-2 c κs = search needs
 
 returns-3 : tie.Need-returns-3
 unfolding admitsMap
@@ -55,14 +35,14 @@ pub admit-map-spec : {M : Type 1} → statement M
 admit-map-spec =
     tie.close
     (tie.spec
-    check-requires
-    enum-known-found
-    enum-told
+    (λ c κs. search needs)
+    (λ c. search needs)
+    (λ c. search needs)
     returns
     work-cells-requires
-    refuse-requires
+    (λ c κs. search needs)
     returns-2
     mul-if2
-    refuse-requires-2
+    (λ c κs. search needs)
     returns-3
     returns-4)

@@ -6,20 +6,6 @@ use Rattle.finder.specs.Finder.{admitsSets}
 use borrow.Author.Needs.{needs}
 use Rattle.finder.proofs.admission.admit_sets.Statement.{statement}
 use Rattle.finder.proofs.admission.admit_sets.Tie as tie
-use Rattle.finder.proofs.admission.admit_sets.Reads as reads
-use Rattle.finder.proofs.admission.admit_sets.Lts as lts
-use Rattle.book.proofs.check.Reads as check-reads
-use Rattle.finder.proofs.admission.refuse.Reads as refuse-reads
-use Rattle.finder.proofs.admission.work_cells.Reads as work-cells-reads
-
-check-requires : tie.Need-check-requires
-check-requires c κs = search needs
-
-enum-known-found : tie.Need-enum-known-found
-enum-known-found c = search needs
-
-enum-told : tie.Need-enum-told
-enum-told c = search needs
 
 returns : tie.Need-returns
 unfolding admitsSets
@@ -28,22 +14,13 @@ returns c = rw (sym (c .before .before .check .ensures) ∙ c .enum-told .given 
 work-cells-requires : tie.Need-work-cells-requires
 work-cells-requires c κs = (valid-holds _ _ (sym (c .before .before .before .check .ensures) ∙ c .before .found .given .1) .small)
 
-refuse-requires : tie.Need-refuse-requires
-refuse-requires c κs = search needs
-
 returns-2 : tie.Need-returns-2
 unfolding admitsSets
 returns-2 c = rw (sym (c .before .before .before .before .before .before .check .ensures) ∙ c .before .before .before .before .found .given .1, ← c .before .before .work-cells .ensures, lt-ltb _ _ (c .before .if1 .taken)) (c .refuse .ensures)
 
-refuse-requires-2 : tie.Need-refuse-requires-2
-refuse-requires-2 c κs = search needs
-
 returns-3 : tie.Need-returns-3
 unfolding admitsSets
 returns-3 c = rw (sym (c .before .before .before .before .before .before .before .before .check .ensures) ∙ c .before .before .before .before .before .before .found .given .1, ← c .before .before .before .before .work-cells .ensures, le-ltb _ _ (c .before .before .before .if1 .left), lt-ltb _ _ (c .before .if2 .taken)) (c .refuse2 .ensures)
-
-refuse-requires-3 : tie.Need-refuse-requires-3
-refuse-requires-3 c κs = search needs
 
 returns-4 : tie.Need-returns-4
 unfolding admitsSets
@@ -57,15 +34,15 @@ pub admit-sets-spec : {M : Type 1} → statement M
 admit-sets-spec =
     tie.close
     (tie.spec
-    check-requires
-    enum-known-found
-    enum-told
+    (λ c κs. search needs)
+    (λ c. search needs)
+    (λ c. search needs)
     returns
     work-cells-requires
-    refuse-requires
+    (λ c κs. search needs)
     returns-2
-    refuse-requires-2
+    (λ c κs. search needs)
     returns-3
-    refuse-requires-3
+    (λ c κs. search needs)
     returns-4
     returns-5)

@@ -11,8 +11,6 @@ use lib.ListN.{length, length-set, replicate, drop}
 use borrow.Author.Needs.{needs}
 use Rattle.finder.proofs.admission.clear.Statement.{statement}
 use Rattle.finder.proofs.admission.clear.Tie as tie
-use Rattle.finder.proofs.admission.clear.Reads as reads
-use Rattle.finder.proofs.admission.clear.Lts as lts
 
 abbrev Inv-loop : tie.InvT-loop
 Inv-loop work₀ n i₀ work i = (i ≤ n) × (length work ≡ length work₀) × (work ≡ replicate i 0 ++ drop i work₀)
@@ -22,18 +20,6 @@ abbrev μ-loop : tie.MeasureT-loop
 
 loop-holds : tie.Need-loop-holds Inv-loop μ-loop
 loop-holds c = (omega arith, refl, fill-none _ 0)
-
-mul-work : tie.Need-mul-work Inv-loop μ-loop
-mul-work c = search needs
-
-slice-write-work : tie.Need-slice-write-work Inv-loop μ-loop
-slice-write-work c = search needs
-
-add-i : tie.Need-add-i Inv-loop μ-loop
-add-i c = search needs
-
-loop-less : tie.Need-loop-less Inv-loop μ-loop
-loop-less c = search needs
 
 loop-again : tie.Need-loop-again Inv-loop μ-loop
 loop-again c =
@@ -53,10 +39,10 @@ clear-spec =
     Inv-loop
     μ-loop
     loop-holds
-    mul-work
-    slice-write-work
-    add-i
-    loop-less
+    (λ c. search needs)
+    (λ c. search needs)
+    (λ c. search needs)
+    (λ c. search needs)
     loop-again
     same-length
     returns)

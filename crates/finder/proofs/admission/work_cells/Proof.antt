@@ -4,8 +4,6 @@ use Rattle.finder.specs.FinderLaws.{room}
 use borrow.Author.Needs.{needs}
 use Rattle.finder.proofs.admission.work_cells.Statement.{statement}
 use Rattle.finder.proofs.admission.work_cells.Tie as tie
-use Rattle.finder.proofs.admission.work_cells.Reads as reads
-use Rattle.finder.proofs.admission.work_cells.Lts as lts
 
 mul-result : tie.Need-mul-result
 mul-result c = omega (arith, room (c .before .pre) .squares)

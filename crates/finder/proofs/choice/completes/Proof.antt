@@ -5,9 +5,6 @@ use Rattle.search.specs.SearchLaws.{reached-completes}
 use borrow.Author.Needs.{needs}
 use Rattle.finder.proofs.choice.completes.Statement.{statement}
 use Rattle.finder.proofs.choice.completes.Tie as tie
-use Rattle.finder.proofs.choice.completes.Reads as reads
-use Rattle.finder.proofs.choice.completes.Lts as lts
-use Rattle.search.proofs.search.Reads as search-reads
 
 search-requires : tie.Need-search-requires
 search-requires c κs = search needs

@@ -6,31 +6,12 @@ use Rattle.finder.specs.FindLaws.{pair-admitted}
 use borrow.Author.Needs.{needs}
 use Rattle.finder.proofs.one_pair.find.Statement.{statement}
 use Rattle.finder.proofs.one_pair.find.Tie as tie
-use Rattle.finder.proofs.one_pair.find.Reads as reads
-use Rattle.finder.proofs.one_pair.find.Lts as lts
-use Rattle.finder.proofs.admission.admit_pair.Reads as admit-pair-reads
-use Rattle.finder.proofs.one_pair.solve.Reads as solve-reads
-
-admit-pair-requires : tie.Need-admit-pair-requires
-admit-pair-requires c κs = search needs
-
-enum-known-r : tie.Need-enum-known-r
-enum-known-r c = search needs
-
-enum-known-d : tie.Need-enum-known-d
-enum-known-d c = search needs
 
 solve-requires : tie.Need-solve-requires
 solve-requires c κs = let a = (pair-admitted _ _ _ _ _ _ (sym (c .before .before .before .before .before .admit-pair .ensures) ∙ c .before .before .before .d .given .1)) in (valid-holds _ _ (a .book), (a .room, a .state, a .lookahead, a .enough))
 
 returns : tie.Need-returns
 returns c = refuses _ (sym (c .before .before .before .admit-pair .ensures) ∙ c .before .r .given .1)
-
-same-length : tie.Need-same-length
-same-length c = search needs
-
-same-length-2 : tie.Need-same-length-2
-same-length-2 c = search needs
 
 returns-2 : tie.Need-returns-2
 returns-2 c = rw (c .before .before .before .before .solve .ensures .1) (answers _ (sym (c .before .before .before .before .before .before .before .before .before .before .admit-pair .ensures) ∙ c .before .before .before .before .before .before .before .before .d .given .1) (c .before .before .before .before .solve .ensures .0))
@@ -39,11 +20,11 @@ pub find-spec : {M : Type 1} → statement M
 find-spec =
     tie.close
     (tie.spec
-    admit-pair-requires
-    enum-known-r
-    enum-known-d
+    (λ c κs. search needs)
+    (λ c. search needs)
+    (λ c. search needs)
     solve-requires
     returns
-    same-length
-    same-length-2
+    (λ c. search needs)
+    (λ c. search needs)
     returns-2)

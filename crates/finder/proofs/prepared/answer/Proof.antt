@@ -6,21 +6,9 @@ use Rattle.finder.specs.PairLaws.{pair-reached, to-pair, answered-unreac
 use borrow.Author.Needs.{needs}
 use Rattle.finder.proofs.prepared.answer.Statement.{statement}
 use Rattle.finder.proofs.prepared.answer.Tie as tie
-use Rattle.finder.proofs.prepared.answer.Reads as reads
-use Rattle.finder.proofs.prepared.answer.Lts as lts
-use Rattle.distances.proofs.to_goal.Reads as to-goal-reads
-use Rattle.finder.proofs.choosing.choose.Reads as choose-reads
-use Rattle.distances.proofs.only.Reads as only-reads
-use Rattle.finder.proofs.pair.shortest.Reads as shortest-reads
-
-only-requires : tie.Need-only-requires
-only-requires c κs = search needs
 
 to-goal-requires : tie.Need-to-goal-requires
 to-goal-requires c κs = (c .before .before .before .before .before .before .pre .0, (c .before .before .before .before .before .before .pre .1 .0, single-goals (c .before .only .ensures)))
-
-shortest-requires : tie.Need-shortest-requires
-shortest-requires c κs = search needs
 
 returns : tie.Need-returns
 returns c = answered-unreached (pair-reached (c .before .before .before .before .before .before .before .before .before .before .pre .0) (c .before .before .before .before .before .only .ensures) (c .before .before .before .before .before .before .before .before .before .before .pre .1 .1 .0) (c .before .before .before .before .before .before .before .before .before .before .pre .1 .1 .1) (c .before .before .before .to-goal .ensures) (c .before .shortest .ensures)) (c .if1 .taken)
@@ -28,17 +16,8 @@ returns c = answered-unreached (pair-reached (c .before .before .before .before 
 returns-2 : tie.Need-returns-2
 returns-2 c = answered-long (pair-reached (c .before .before .before .before .before .before .before .before .before .before .before .pre .0) (c .before .before .before .before .before .before .only .ensures) (c .before .before .before .before .before .before .before .before .before .before .before .pre .1 .1 .0) (c .before .before .before .before .before .before .before .before .before .before .before .pre .1 .1 .1) (c .before .before .before .before .to-goal .ensures) (c .before .before .shortest .ensures)) (c .if2 .taken) (c .before .if1 .left)
 
-cast-choose : tie.Need-cast-choose
-cast-choose c = search needs
-
 choose-requires : tie.Need-choose-requires
 choose-requires c κs = let h = c .before .before .before .before .before .before .before .before .before .before .before .before .before .pre .0 in let t = c .before .before .before .before .before .before .before .before .before .before .before .before .before .pre .1 .0 in (h, ((c .before .before .before .before .before .before .before .before .before .before .before .before .before .pre .1 .1 .1, t .fits, omega arith, omega (arith, c .before .before .before .before .before .before .before .before .before .before .before .before .before .pre .1 .1 .2)), (table-quiet h t, ((table-closed h t, table-witnessed h t), (to-pair h (c .before .before .before .before .before .before .before .before .only .ensures) (c .before .before .before .before .before .before .before .before .before .before .before .before .before .pre .1 .1 .0) (c .before .before .before .before .before .before .before .before .before .before .before .before .before .pre .1 .1 .1) (c .before .before .before .before .before .before .to-goal .ensures) t, (pair-reached (c .before .before .before .before .before .before .before .before .before .before .before .before .before .pre .0) (c .before .before .before .before .before .before .before .before .only .ensures) (c .before .before .before .before .before .before .before .before .before .before .before .before .before .pre .1 .1 .0) (c .before .before .before .before .before .before .before .before .before .before .before .before .before .pre .1 .1 .1) (c .before .before .before .before .before .before .to-goal .ensures) (c .before .before .before .before .shortest .ensures)))))))
-
-cast-t16 : tie.Need-cast-t16
-cast-t16 c = search needs
-
-same-length : tie.Need-same-length
-same-length c = search needs
 
 returns-3 : tie.Need-returns-3
 returns-3 c = answered-sentence (c .before .before .choose .ensures)
@@ -47,13 +26,13 @@ pub answer-spec : {M : Type 1} → statement M
 answer-spec =
     tie.close
     (tie.spec
-    only-requires
+    (λ c κs. search needs)
     to-goal-requires
-    shortest-requires
+    (λ c κs. search needs)
     returns
     returns-2
-    cast-choose
+    (λ c. search needs)
     choose-requires
-    cast-t16
-    same-length
+    (λ c. search needs)
+    (λ c. search needs)
     returns-3)

@@ -10,10 +10,6 @@ use Rattle.finder.specs.ReachedLaws.{Stored, stored-none, stored-more}
 use borrow.Author.Needs.{needs}
 use Rattle.finder.proofs.reached.write_sets.Statement.{statement}
 use Rattle.finder.proofs.reached.write_sets.Tie as tie
-use Rattle.finder.proofs.reached.write_sets.Reads as reads
-use Rattle.finder.proofs.reached.write_sets.Lts as lts
-use Rattle.finder.proofs.reached.mask_of.Reads as mask-of-reads
-use Rattle.sets.proofs.size.Reads as size-reads
 
 abbrev Inv-loop : tie.InvT-loop
 Inv-loop dist s t masks₀ sizes₀ q₀ masks sizes q = (q ≤ s) × Stored (maskIn dist t) masks₀ masks q × Stored (sizeIn dist t) sizes₀ sizes q
@@ -24,29 +20,11 @@ abbrev μ-loop : tie.MeasureT-loop
 loop-holds : tie.Need-loop-holds Inv-loop μ-loop
 loop-holds c = (omega arith, stored-none, stored-none)
 
-mask-of-requires : tie.Need-mask-of-requires Inv-loop μ-loop
-mask-of-requires c κs = search needs
-
-mul-masks : tie.Need-mul-masks Inv-loop μ-loop
-mul-masks c = search needs
-
 slice-write-masks : tie.Need-slice-write-masks Inv-loop μ-loop
 slice-write-masks c = omega (arith, c .before .before .loop .inv .1 .size, c .before .before .before .before .before .before .pre)
 
-size-requires : tie.Need-size-requires Inv-loop μ-loop
-size-requires c κs = search needs
-
-mul-sizes : tie.Need-mul-sizes Inv-loop μ-loop
-mul-sizes c = search needs
-
 slice-write-sizes : tie.Need-slice-write-sizes Inv-loop μ-loop
 slice-write-sizes c = omega (arith, c .before .before .before .loop .inv .2 .size, c .before .before .before .before .before .before .before .pre)
-
-add-q : tie.Need-add-q Inv-loop μ-loop
-add-q c = search needs
-
-loop-less : tie.Need-loop-less Inv-loop μ-loop
-loop-less c = search needs
 
 loop-again : tie.Need-loop-again Inv-loop μ-loop
 loop-again c = (omega arith, stored-more (c .before .before .before .loop .inv .1) (omega (arith, c .before .before .before .before .before .before .before .pre)) (c .before .mask-of .ensures), stored-more (c .before .before .before .loop .inv .2) (omega (arith, c .before .before .before .before .before .before .before .pre)) (c .size .ensures ∙ ap ones (c .before .mask-of .ensures) ∙ set-count _ _))
@@ -67,14 +45,14 @@ write-sets-spec =
     Inv-loop
     μ-loop
     loop-holds
-    mask-of-requires
-    mul-masks
+    (λ c κs. search needs)
+    (λ c. search needs)
     slice-write-masks
-    size-requires
-    mul-sizes
+    (λ c κs. search needs)
+    (λ c. search needs)
     slice-write-sizes
-    add-q
-    loop-less
+    (λ c. search needs)
+    (λ c. search needs)
     loop-again
     same-length
     same-length-2

@@ -6,8 +6,6 @@ use native.Mathlib.Nat.{le-antisymm}
 use borrow.Author.Needs.{needs}
 use Rattle.finder.proofs.rows.copy_row.Statement.{statement}
 use Rattle.finder.proofs.rows.copy_row.Tie as tie
-use Rattle.finder.proofs.rows.copy_row.Reads as reads
-use Rattle.finder.proofs.rows.copy_row.Lts as lts
 
 abbrev Inv-loop : tie.InvT-loop
 Inv-loop from start n to₀ at i₀ to i = (i ≤ n) × Copied from start to₀ at to i
@@ -18,29 +16,11 @@ abbrev μ-loop : tie.MeasureT-loop
 loop-holds : tie.Need-loop-holds Inv-loop μ-loop
 loop-holds c = (omega arith, copied-none)
 
-add-to : tie.Need-add-to Inv-loop μ-loop
-add-to c = search needs
-
-mul-to : tie.Need-mul-to Inv-loop μ-loop
-mul-to c = search needs
-
-element-copy-out-to : tie.Need-element-copy-out-to Inv-loop μ-loop
-element-copy-out-to c = search needs
-
-add-to-2 : tie.Need-add-to-2 Inv-loop μ-loop
-add-to-2 c = search needs
-
 mul-to-2 : tie.Need-mul-to-2 Inv-loop μ-loop
 mul-to-2 c = omega (arith, c .before .before .loop .inv .1 .size)
 
 slice-write-to : tie.Need-slice-write-to Inv-loop μ-loop
 slice-write-to c = omega (arith, c .before .before .loop .inv .1 .size)
-
-add-i : tie.Need-add-i Inv-loop μ-loop
-add-i c = search needs
-
-loop-less : tie.Need-loop-less Inv-loop μ-loop
-loop-less c = search needs
 
 loop-again : tie.Need-loop-again Inv-loop μ-loop
 loop-again c = (omega arith, copied-more (c .before .before .loop .inv .1) (omega (arith, c .before .before .before .pre)) (omega (arith, c .before .before .before .pre)))
@@ -58,14 +38,14 @@ copy-row-spec =
     Inv-loop
     μ-loop
     loop-holds
-    add-to
-    mul-to
-    element-copy-out-to
-    add-to-2
+    (λ c. search needs)
+    (λ c. search needs)
+    (λ c. search needs)
+    (λ c. search needs)
     mul-to-2
     slice-write-to
-    add-i
-    loop-less
+    (λ c. search needs)
+    (λ c. search needs)
     loop-again
     same-length
     returns)

@@ -9,9 +9,6 @@ use Rattle.finder.specs.RowsLaws.{Rowed, rowed-none, rowed-more}
 use borrow.Author.Needs.{needs}
 use Rattle.finder.proofs.rows.copy_rows.Statement.{statement}
 use Rattle.finder.proofs.rows.copy_rows.Tie as tie
-use Rattle.finder.proofs.rows.copy_rows.Reads as reads
-use Rattle.finder.proofs.rows.copy_rows.Lts as lts
-use Rattle.finder.proofs.rows.copy_row.Reads as copy-row-reads
 
 abbrev Inv-loop : tie.InvT-loop
 Inv-loop from s t to₀ at₀ q₀ to at q = (q ≤ s) × (length to ≡ length to₀) × Rowed from t to₀ to q at
@@ -22,20 +19,11 @@ abbrev μ-loop : tie.MeasureT-loop
 loop-holds : tie.Need-loop-holds Inv-loop μ-loop
 loop-holds c = (omega arith, search needs, rowed-none (c .before .pre .0) (c .before .pre .2))
 
-mul-copy-row : tie.Need-mul-copy-row Inv-loop μ-loop
-mul-copy-row c = search needs
-
 copy-row-requires : tie.Need-copy-row-requires Inv-loop μ-loop
 copy-row-requires c κs = (c .before .before .before .before .pre .0, omega (arith, c .before .before .before .before .pre), omega (arith, c .before .before .before .before .pre, c .before .before .loop .inv .2 .place, row-below (c .before .before .before .before .args .s) (c .before .before .before .before .args .t) (c .before .before .loop .q) (c .before .loop-test .taken)))
 
 add-at : tie.Need-add-at Inv-loop μ-loop
 add-at c = omega (arith, c .before .before .before .before .before .before .before .pre, c .before .before .before .before .before .loop .inv .2 .place, row-below (c .before .before .before .before .before .before .before .args .s) (c .before .before .before .before .before .before .before .args .t) (c .before .before .before .before .before .loop .q) (c .before .before .before .before .loop-test .taken))
-
-add-q : tie.Need-add-q Inv-loop μ-loop
-add-q c = search needs
-
-loop-less : tie.Need-loop-less Inv-loop μ-loop
-loop-less c = search needs
 
 loop-again : tie.Need-loop-again Inv-loop μ-loop
 loop-again c = (
@@ -57,11 +45,11 @@ copy-rows-spec =
     Inv-loop
     μ-loop
     loop-holds
-    mul-copy-row
+    (λ c. search needs)
     copy-row-requires
     add-at
-    add-q
-    loop-less
+    (λ c. search needs)
+    (λ c. search needs)
     loop-again
     same-length
     returns)

@@ -2,8 +2,6 @@
 use borrow.Author.Tests.{lt-ltb, le-ltb}
 use Rattle.finder.proofs.still.cost.Statement.{statement}
 use Rattle.finder.proofs.still.cost.Tie as tie
-use Rattle.finder.proofs.still.cost.Reads as reads
-use Rattle.finder.proofs.still.cost.Lts as lts
 
 returns : tie.Need-returns
 returns c = rw (lt-ltb _ _ (c .if1 .taken))

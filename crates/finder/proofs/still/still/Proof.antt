@@ -7,9 +7,6 @@ use Rattle.finder.specs.StillLaws.{column-none, column-more}
 use borrow.Author.Needs.{needs}
 use Rattle.finder.proofs.still.still.Statement.{statement}
 use Rattle.finder.proofs.still.still.Tie as tie
-use Rattle.finder.proofs.still.still.Reads as reads
-use Rattle.finder.proofs.still.still.Lts as lts
-use Rattle.finder.proofs.still.cost.Reads as cost-reads
 
 abbrev Inv-loop : tie.InvT-loop
 Inv-loop distances s x to₀ q₀ to q = (q ≤ s) × Column distances x to q
@@ -19,30 +16,6 @@ abbrev μ-loop : tie.MeasureT-loop
 
 loop-holds : tie.Need-loop-holds Inv-loop μ-loop
 loop-holds c = (omega arith, column-none (c .pre .3))
-
-element-copy-out-cost : tie.Need-element-copy-out-cost Inv-loop μ-loop
-element-copy-out-cost c = search needs
-
-cost-requires : tie.Need-cost-requires Inv-loop μ-loop
-cost-requires c κs = search needs
-
-mul-to : tie.Need-mul-to Inv-loop μ-loop
-mul-to c = search needs
-
-add-to : tie.Need-add-to Inv-loop μ-loop
-add-to c = search needs
-
-mul-to-2 : tie.Need-mul-to-2 Inv-loop μ-loop
-mul-to-2 c = search needs
-
-element-write-to : tie.Need-element-write-to Inv-loop μ-loop
-element-write-to c = search needs
-
-add-q : tie.Need-add-q Inv-loop μ-loop
-add-q c = search needs
-
-loop-less : tie.Need-loop-less Inv-loop μ-loop
-loop-less c = search needs
 
 loop-again : tie.Need-loop-again Inv-loop μ-loop
 loop-again c = (omega arith, column-more (c .before .before .before .loop .inv .1) (c .before .before .before .before .pre .1) (omega (arith, c .before .before .before .before .pre)) (c .cost .ensures))
@@ -57,13 +30,13 @@ still-spec =
     Inv-loop
     μ-loop
     loop-holds
-    element-copy-out-cost
-    cost-requires
-    mul-to
-    add-to
-    mul-to-2
-    element-write-to
-    add-q
-    loop-less
+    (λ c. search needs)
+    (λ c κs. search needs)
+    (λ c. search needs)
+    (λ c. search needs)
+    (λ c. search needs)
+    (λ c. search needs)
+    (λ c. search needs)
+    (λ c. search needs)
     loop-again
     returns)

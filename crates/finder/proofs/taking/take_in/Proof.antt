@@ -16,33 +16,12 @@ use Rattle.finder.specs.Taking.{Stacked}
 use borrow.Author.Needs.{needs}
 use Rattle.finder.proofs.taking.take_in.Statement.{statement}
 use Rattle.finder.proofs.taking.take_in.Tie as tie
-use Rattle.finder.proofs.taking.take_in.Reads as reads
-use Rattle.finder.proofs.taking.take_in.Lts as lts
-use Rattle.advance.proofs.nearest.Reads as nearest-reads
-use Rattle.advance.proofs.push_to_shift.Reads as push-to-shift-reads
-use Rattle.finder.proofs.still.still.Reads as still-reads
-use Rattle.search.proofs.search.Reads as search-reads
-
-nearest-requires : tie.Need-nearest-requires
-nearest-requires c κs = search needs
-
-still-requires : tie.Need-still-requires
-still-requires c κs = search needs
-
-slice-reshare-prefix-search : tie.Need-slice-reshare-prefix-search
-slice-reshare-prefix-search c = search needs
 
 slice-aggregate-search : tie.Need-slice-aggregate-search
 slice-aggregate-search c = sym (length-take-le _ _ (omega (arith, c .before .before .before .before .before .before .before .before .before .before .pre .1 .1 .1 .1 .1)))
 
 search-requires : tie.Need-search-requires
 search-requires c κs = ((c .before .before .before .before .before .before .before .before .before .before .pre .0), ((c .before .before .before .before .before .before .before .before .before .before .pre .1 .0 .0, omega arith), (c .before .before .before .before .before .before .before .before .before .before .pre .1 .0 .1, (c .before .before .before .before .before .before .before .before .before .before .pre .1 .1 .0, part-states (c .before .before .before .before .before .before .before .before .before .before .pre .1 .1 .1 .1 .0) (omega (arith, c .before .before .before .before .before .before .before .before .before .before .pre .1 .1 .1 .1 .1))))))
-
-enum-told : tie.Need-enum-told
-enum-told c = search needs
-
-enum-known-kept : tie.Need-enum-known-kept
-enum-known-kept c = search needs
 
 cast-stack : tie.Need-cast-stack
 cast-stack c = let p = spot (in-range (c .before .before .before .before .before .before .before .before .before .before .before .before .before .before .pre .0)) (c .before .before .before .before .before .before .before .before .before .before .before .before .before .before .pre .1 .1 .1 .0 .1) (column-still (tablesOf (now (c .before .before .before .before .before .before .before .before .before .before .before .before .before .before .args .cells))) _ _ _ (rw (← states-are (c .before .before .before .before .before .before .before .before .before .before .before .before .before .before .pre .0)) at (c .before .before .before .before .before .before .still .ensures))) (subst (λ (n : ℕ). Stacked n (now (c .before .before .before .before .before .before .before .before .before .before .before .before .before .before .args .stack)) (c .before .before .before .before .before .before .before .before .before .before .before .before .before .before .args .depth)) (sym (states-are (c .before .before .before .before .before .before .before .before .before .before .before .before .before .before .pre .0))) (c .before .before .before .before .before .before .before .before .before .before .before .before .before .before .pre .1 .1 .1 .1 .0)) (omega (arith, c .before .before .before .before .before .before .before .before .before .before .before .before .before .before .pre .1 .1 .1 .1 .1)) (rw (c .before .kept .given .1) at (c .before .before .before .search .ensures)) in omega (arith, p .state, states-are (c .before .before .before .before .before .before .before .before .before .before .before .before .before .before .pre .0), (c .before .before .before .before .before .before .before .before .before .before .before .before .before .before .pre .0) .small .states)
@@ -64,9 +43,6 @@ push-to-shift-requires c κs =
       ((c .before .before .before .before .before .before .before .before .before .before .before .before .before .before .before .before .pre .1 .0 .0, c .before .before .before .before .before .before .before .before .before .before .before .before .before .before .before .before .pre .1 .0 .1), (c .before .before .before .before .before .before .before .before .before .before .before .before .before .before .before .before .pre .1 .1 .1 .0 .1, (c .before .before .before .before .before .before .before .before .before .before .before .nearest .ensures, ((omega arith, simp length-set (omega (arith, p .low, c .before .before .before .before .before .before .before .before .before .before .before .before .before .before .before .before .pre .1 .1 .1 .1 .1))), (rw top (omega (arith, p .state, states-are (c .before .before .before .before .before .before .before .before .before .before .before .before .before .before .before .before .pre .0))), rw top (p .near)))))),
     )
 
-same-length : tie.Need-same-length
-same-length c = search needs
-
 returns : tie.Need-returns
 returns c =
     let i = in-range (c .before .before .before .before .before .before .before .before .before .before .before .before .before .pre .0) in
@@ -85,19 +61,19 @@ pub take-in-spec : {M : Type 1} → statement M
 take-in-spec =
     tie.close
     (tie.spec
-    nearest-requires
-    still-requires
-    slice-reshare-prefix-search
+    (λ c κs. search needs)
+    (λ c κs. search needs)
+    (λ c. search needs)
     slice-aggregate-search
     search-requires
-    enum-told
-    enum-known-kept
+    (λ c. search needs)
+    (λ c. search needs)
     cast-stack
     mul-stack
     slice-write-stack
     add-push-to-shift
     push-to-shift-requires
-    same-length
+    (λ c. search needs)
     returns
     same-length-2
     returns-2)

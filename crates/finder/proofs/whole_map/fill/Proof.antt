@@ -3,10 +3,6 @@ use Rattle.finder.specs.MapLaws.{rows-map}
 use borrow.Author.Needs.{needs}
 use Rattle.finder.proofs.whole_map.fill.Statement.{statement}
 use Rattle.finder.proofs.whole_map.fill.Tie as tie
-use Rattle.finder.proofs.whole_map.fill.Reads as reads
-use Rattle.finder.proofs.whole_map.fill.Lts as lts
-use Rattle.finder.proofs.measure.distances_in.Reads as distances-in-reads
-use Rattle.finder.proofs.rows.copy_rows.Reads as copy-rows-reads
 
 distances-in-requires : tie.Need-distances-in-requires
 distances-in-requires c κs = search needs

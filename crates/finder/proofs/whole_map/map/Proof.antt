@@ -8,19 +8,6 @@ use Rattle.finder.specs.MapLaws.{map-admitted}
 use borrow.Author.Needs.{needs}
 use Rattle.finder.proofs.whole_map.map.Statement.{statement}
 use Rattle.finder.proofs.whole_map.map.Tie as tie
-use Rattle.finder.proofs.whole_map.map.Reads as reads
-use Rattle.finder.proofs.whole_map.map.Lts as lts
-use Rattle.finder.proofs.admission.admit_map.Reads as admit-map-reads
-use Rattle.finder.proofs.whole_map.fill.Reads as fill-reads
-
-admit-map-requires : tie.Need-admit-map-requires
-admit-map-requires c κs = search needs
-
-enum-known-r : tie.Need-enum-known-r
-enum-known-r c = search needs
-
-enum-known-d : tie.Need-enum-known-d
-enum-known-d c = search needs
 
 fill-requires : tie.Need-fill-requires
 fill-requires c κs = let a = (map-admitted _ _ _ _ (sym (c .before .before .before .before .before .admit-map .ensures) ∙ c .before .before .before .d .given .1)) in (valid-holds _ _ (a .book), (a .room, a .enough))
@@ -31,12 +18,6 @@ mul-t17 c = omega (arith, actions-few _ (valid-holds _ _ ((map-admitted _ _ _ _ 
 returns : tie.Need-returns
 returns c = declines _ (sym (c .before .before .before .admit-map .ensures) ∙ c .before .r .given .1)
 
-same-length : tie.Need-same-length
-same-length c = search needs
-
-same-length-2 : tie.Need-same-length-2
-same-length-2 c = search needs
-
 returns-2 : tie.Need-returns-2
 returns-2 c = rw (c .before .before .before .before .fill .ensures .1) (fills _ (sym (c .before .before .before .before .before .before .before .before .before .before .admit-map .ensures) ∙ c .before .before .before .before .before .before .before .before .d .given .1) (c .before .before .before .before .fill .ensures .0))
 
@@ -44,12 +25,12 @@ pub map-spec : {M : Type 1} → statement M
 map-spec =
     tie.close
     (tie.spec
-    admit-map-requires
-    enum-known-r
-    enum-known-d
+    (λ c κs. search needs)
+    (λ c. search needs)
+    (λ c. search needs)
     fill-requires
     mul-t17
     returns
-    same-length
-    same-length-2
+    (λ c. search needs)
+    (λ c. search needs)
     returns-2)

@@ -5,29 +5,11 @@ use borrow.Author.Needs.{needs}
 use Rattle.judgement.proofs.admission.admit.Statement.{statement}
 use Rattle.judgement.proofs.admission.admit.Tie as tie
 
-check-list-requires : tie.Need-check-list-requires
-check-list-requires c κs = search needs
-
-enum-told : tie.Need-enum-told
-enum-told c = search needs
-
-enum-told-2 : tie.Need-enum-told-2
-enum-told-2 c = search needs
-
 returns : tie.Need-returns
 returns c = c .enum-told2 .given .1 ∙ admit-stop _ _ _ _ _ _ (sym (c .before .before .check-list .ensures) ∙ c .enum-told2 .given .1)
 
-work-cells-requires : tie.Need-work-cells-requires
-work-cells-requires c κs = search needs
-
-too-few-requires : tie.Need-too-few-requires
-too-few-requires c κs = search needs
-
 returns-2 : tie.Need-returns-2
 returns-2 c = c .too-few .ensures ∙ admit-work _ _ _ _ _ _ (sym (c .before .before .before .before .before .check-list .ensures) ∙ c .before .before .before .enum-told .given .1) (rw (← c .before .before .work-cells .ensures) (c .before .if1 .taken))
-
-too-few-requires-2 : tie.Need-too-few-requires-2
-too-few-requires-2 c κs = search needs
 
 returns-3 : tie.Need-returns-3
 returns-3 c = c .too-few2 .ensures ∙ admit-stack _ _ _ _ _ _ (sym (c .before .before .before .before .before .before .check-list .ensures) ∙ c .before .before .before .before .enum-told .given .1) (rw (← c .before .before .before .work-cells .ensures) (c .before .before .if1 .left)) (c .before .if2 .taken)
@@ -39,13 +21,13 @@ pub admit-spec : {M : Type 1} → statement M
 admit-spec =
     tie.close
     (tie.spec
-    check-list-requires
-    enum-told
-    enum-told-2
+    (λ c κs. search needs)
+    (λ c. search needs)
+    (λ c. search needs)
     returns
-    work-cells-requires
-    too-few-requires
+    (λ c κs. search needs)
+    (λ c κs. search needs)
     returns-2
-    too-few-requires-2
+    (λ c κs. search needs)
     returns-3
     returns-4)

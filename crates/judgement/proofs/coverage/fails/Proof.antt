@@ -19,17 +19,8 @@ abbrev μ-loop : tie.MeasureT-loop
 loop-holds : tie.Need-loop-holds Inv-loop μ-loop
 loop-holds c = (omega arith, rw sub-zero)
 
-fails-at-requires : tie.Need-fails-at-requires Inv-loop μ-loop
-fails-at-requires c κs = search needs
-
 returns : tie.Need-returns Inv-loop μ-loop
 returns c = sym (c .before .before .before .loop .inv .1 ∙ some-here _ _ _ (c .before .before .loop-test .taken) (sym (c .before .fails-at .ensures) ∙ c .if1 .taken))
-
-add-z : tie.Need-add-z Inv-loop μ-loop
-add-z c = search needs
-
-loop-less : tie.Need-loop-less Inv-loop μ-loop
-loop-less c = search needs
 
 loop-again : tie.Need-loop-again Inv-loop μ-loop
 loop-again c = (omega arith, c .before .before .before .loop .inv .1 ∙ some-on _ _ _ (c .before .before .loop-test .taken) (sym (c .before .fails-at .ensures) ∙ c .if1 .left))
@@ -44,9 +35,9 @@ fails-spec =
     Inv-loop
     μ-loop
     loop-holds
-    fails-at-requires
+    (λ c κs. search needs)
     returns
-    add-z
-    loop-less
+    (λ c. search needs)
+    (λ c. search needs)
     loop-again
     returns-2)

@@ -6,33 +6,6 @@ use borrow.Author.Needs.{needs}
 use Rattle.judgement.proofs.coverage.fails_at.Statement.{statement}
 use Rattle.judgement.proofs.coverage.fails_at.Tie as tie
 
-action-at-requires : tie.Need-action-at-requires
-action-at-requires c κs = search needs
-
-enum-told : tie.Need-enum-told
-enum-told c = search needs
-
-mul-result : tie.Need-mul-result
-mul-result c = search needs
-
-add-result : tie.Need-add-result
-add-result c = search needs
-
-mul-result-2 : tie.Need-mul-result-2
-mul-result-2 c = search needs
-
-element-copy-out-result : tie.Need-element-copy-out-result
-element-copy-out-result c = search needs
-
-enum-told-2 : tie.Need-enum-told-2
-enum-told-2 c = search needs
-
-enum-told-3 : tie.Need-enum-told-3
-enum-told-3 c = search needs
-
-enum-told-4 : tie.Need-enum-told-4
-enum-told-4 c = search needs
-
 returns : tie.Need-returns
 unfolding failsAt entryIn
 returns c = rw (sym (c .before .before .before .action-at .ensures) ∙ c .before .enum-told .given .1)
@@ -53,15 +26,15 @@ pub fails-at-spec : {M : Type 1} → statement M
 fails-at-spec =
     tie.close
     (tie.spec
-    action-at-requires
-    enum-told
-    mul-result
-    add-result
-    mul-result-2
-    element-copy-out-result
-    enum-told-2
-    enum-told-3
-    enum-told-4
+    (λ c κs. search needs)
+    (λ c. search needs)
+    (λ c. search needs)
+    (λ c. search needs)
+    (λ c. search needs)
+    (λ c. search needs)
+    (λ c. search needs)
+    (λ c. search needs)
+    (λ c. search needs)
     returns
     returns-2
     returns-3

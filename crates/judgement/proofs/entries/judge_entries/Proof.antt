@@ -19,38 +19,14 @@ abbrev μ-loop : tie.MeasureT-loop
 loop-holds : tie.Need-loop-holds Inv-loop μ-loop
 loop-holds c = (refl, refl, going-none (c .before .before .before .pre .1 .0) (c .before .before .before .pre .1 .1 .0))
 
-next-at-requires : tie.Need-next-at-requires Inv-loop μ-loop
-next-at-requires c κs = search needs
-
-enum-known-e : tie.Need-enum-known-e Inv-loop μ-loop
-enum-known-e c = search needs
-
-enum-told : tie.Need-enum-told Inv-loop μ-loop
-enum-told c = search needs
-
-same-length : tie.Need-same-length Inv-loop μ-loop
-same-length c = search needs
-
 returns : tie.Need-returns Inv-loop μ-loop
 returns c = (going-done (c .before .before .before .before .before .before .before .pre .0 .small .terminals) (c .before .before .before .loop .inv .2) (sym (c .before .before .next-at .ensures) ∙ c .enum-told .given .1), c .before .before .before .loop .inv .1)
 
 judge-entry-requires : tie.Need-judge-entry-requires Inv-loop μ-loop
 judge-entry-requires c κs = (c .before .before .before .before .before .before .before .before .before .before .pre .0, ((going-spelled (c .before .before .before .before .before .before .before .before .before .before .pre .0 .small .terminals) (c .before .before .before .before .before .before .loop .inv .2) (sym (c .before .before .before .before .before .next-at .ensures) ∙ c .before .before .before .e .given .1)), omega (arith, c .before .before .before .before .before .before .loop .inv .0, c .before .before .before .before .before .before .before .before .before .before .pre .1 .1 .1)))
 
-enum-known-j : tie.Need-enum-known-j Inv-loop μ-loop
-enum-known-j c = search needs
-
-same-length-2 : tie.Need-same-length-2 Inv-loop μ-loop
-same-length-2 c = search needs
-
 returns-2 : tie.Need-returns-2 Inv-loop μ-loop
 returns-2 c = (going-fault (c .before .before .before .before .before .before .before .before .before .before .before .before .before .before .before .before .pre .0 .small .terminals) (c .before .before .before .before .before .before .before .before .before .before .before .before .loop .inv .2) (sym (c .before .before .before .before .before .before .before .before .before .before .before .next-at .ensures) ∙ c .before .before .before .before .before .before .before .before .before .e .given .1) (entry-right (c .before .before .before .before .before .before .before .before .before .before .before .before .before .before .before .before .pre .0) (going-spelled (c .before .before .before .before .before .before .before .before .before .before .before .before .before .before .before .before .pre .0 .small .terminals) (c .before .before .before .before .before .before .before .before .before .before .before .before .loop .inv .2) (sym (c .before .before .before .before .before .before .before .before .before .before .before .next-at .ensures) ∙ c .before .before .before .before .before .before .before .before .before .e .given .1))) _ (sym (c .before .j .given .1) ∙ c .before .before .before .before .before .judge-entry .ensures .0), c .before .before .before .before .before .judge-entry .ensures .1 ∙ c .before .before .before .before .before .before .before .before .before .before .before .before .loop .inv .1)
-
-enum-known-s : tie.Need-enum-known-s Inv-loop μ-loop
-enum-known-s c = search needs
-
-cast-flags : tie.Need-cast-flags Inv-loop μ-loop
-cast-flags c = search needs
 
 element-write-flags : tie.Need-element-write-flags Inv-loop μ-loop
 element-write-flags c = right-below _ _ _ _ _ (entry-right (c .before .before .before .before .before .before .before .before .before .before .before .before .before .before .before .before .pre .0) (going-spelled (c .before .before .before .before .before .before .before .before .before .before .before .before .before .before .before .before .pre .0 .small .terminals) (c .before .before .before .before .before .before .before .before .before .before .before .before .loop .inv .2) (sym (c .before .before .before .before .before .before .before .before .before .before .before .next-at .ensures) ∙ c .before .before .before .before .before .before .before .before .before .e .given .1))) (sym (c .before .s .given .1) ∙ c .before .before .before .before .before .judge-entry .ensures .0)
@@ -71,17 +47,17 @@ judge-entries-spec =
     Inv-loop
     μ-loop
     loop-holds
-    next-at-requires
-    enum-known-e
-    enum-told
-    same-length
+    (λ c κs. search needs)
+    (λ c. search needs)
+    (λ c. search needs)
+    (λ c. search needs)
     returns
     judge-entry-requires
-    enum-known-j
-    same-length-2
+    (λ c. search needs)
+    (λ c. search needs)
     returns-2
-    enum-known-s
-    cast-flags
+    (λ c. search needs)
+    (λ c. search needs)
     element-write-flags
     add-i
     loop-less

@@ -7,29 +7,11 @@ use borrow.Author.Needs.{needs}
 use Rattle.judgement.proofs.entries.judge_entry.Statement.{statement}
 use Rattle.judgement.proofs.entries.judge_entry.Tie as tie
 
-cast-z : tie.Need-cast-z
-cast-z c = search needs
-
-add-end : tie.Need-add-end
-add-end c = search needs
-
-sub-drive : tie.Need-sub-drive
-sub-drive c = search needs
-
-part-drive-start : tie.Need-part-drive-start
-part-drive-start c = search needs
-
-part-drive-end : tie.Need-part-drive-end
-part-drive-end c = search needs
-
 drive-requires : tie.Need-drive-requires
 drive-requires c κs = let len : c .before .before .before .before .before .before .args .e .start + c .before .before .before .before .before .before .args .e .len - c .before .before .before .before .before .before .args .e .start ≡ c .before .before .before .before .before .before .args .e .len = omega arith in (c .before .before .before .before .before .before .pre .0, (rw len (spelled-sound (c .before .before .before .before .before .before .pre .1 .0)), (c .before .before .before .before .before .before .pre .1 .0 .below, c .before .before .before .before .before .before .pre .1 .1)))
 
 weigh-requires : tie.Need-weigh-requires
 weigh-requires c κs = ran-right (c .before .before .before .before .before .before .before .before .before .args .stack .now) (c .before .before .before .before .before .before .before .before .before .pre .0) (c .before .before .before .before .before .before .before .before .before .pre .1 .0) (c .before .before .drive .ensures)
-
-same-length : tie.Need-same-length
-same-length c = search needs
 
 returns : tie.Need-returns
 returns c = (ran-verdict (c .before .before .before .before .before .before .before .before .before .before .args .stack .now) (c .before .before .before .before .before .before .before .before .before .before .pre .0) (c .before .before .before .before .before .before .before .before .before .before .pre .1 .0) (c .before .before .before .drive .ensures) _ _ _ (c .weigh .ensures), ran-rest (c .before .before .before .before .before .before .before .before .before .before .args .stack .now) (c .before .before .before .before .before .before .before .before .before .before .pre .0) (c .before .before .before .before .before .before .before .before .before .before .pre .1 .0) (c .before .before .before .drive .ensures) (search needs) (c .before .before .before .before .before .before .before .before .before .before .pre .1 .1))
@@ -38,12 +20,12 @@ pub judge-entry-spec : {M : Type 1} → statement M
 judge-entry-spec =
     tie.close
     (tie.spec
-    cast-z
-    add-end
-    sub-drive
-    part-drive-start
-    part-drive-end
+    (λ c. search needs)
+    (λ c. search needs)
+    (λ c. search needs)
+    (λ c. search needs)
+    (λ c. search needs)
     drive-requires
     weigh-requires
-    same-length
+    (λ c. search needs)
     returns)

@@ -6,18 +6,9 @@ use borrow.Author.Needs.{needs}
 use Rattle.judgement.proofs.entries.weigh.Statement.{statement}
 use Rattle.judgement.proofs.entries.weigh.Tie as tie
 
-is-right-requires : tie.Need-is-right-requires
-is-right-requires c κs = search needs
-
 returns : tie.Need-returns
 unfolding weighed
 returns c = rw (sym (c .before .is-right .ensures) ∙ not-true _ (c .if1 .taken))
-
-state-of-requires : tie.Need-state-of-requires
-state-of-requires c κs = search needs
-
-cast-if2 : tie.Need-cast-if2
-cast-if2 c = search needs
 
 element-copy-out-if2 : tie.Need-element-copy-out-if2
 element-copy-out-if2 c = rw (c .state-of .ensures) (c .before .before .before .pre (sym (c .before .before .is-right .ensures) ∙ not-false _ (c .before .if1 .left)))
@@ -34,10 +25,10 @@ pub weigh-spec : {M : Type 1} → statement M
 weigh-spec =
     tie.close
     (tie.spec
-    is-right-requires
+    (λ c κs. search needs)
     returns
-    state-of-requires
-    cast-if2
+    (λ c κs. search needs)
+    (λ c. search needs)
     element-copy-out-if2
     returns-2
     returns-3)

@@ -6,20 +6,8 @@ use borrow.Author.Needs.{needs}
 use Rattle.judgement.proofs.whole.judge_against.Statement.{statement}
 use Rattle.judgement.proofs.whole.judge_against.Tie as tie
 
-admit-requires : tie.Need-admit-requires
-admit-requires c κs = search needs
-
-enum-known-r : tie.Need-enum-known-r
-enum-known-r c = search needs
-
-enum-known-rest : tie.Need-enum-known-rest
-enum-known-rest c = search needs
-
 judge-from-requires : tie.Need-judge-from-requires
 judge-from-requires c κs = let a = (admitted _ _ _ _ _ _ (sym (c .before .before .before .before .before .admit .ensures) ∙ c .before .before .before .rest .given .1)) in (c .before .before .before .before .before .before .before .before .before .before .pre, (admitted-standing (c .before .before .before .before .before .before .before .before .before .before .pre) a, (admitted-room (c .before .before .before .before .before .before .before .before .before .before .pre) a, a .depth)))
-
-work-cells-requires : tie.Need-work-cells-requires
-work-cells-requires c κs = search needs
 
 clear-requires : tie.Need-clear-requires
 clear-requires c κs = omega (arith, (admitted _ _ _ _ _ _ (sym (c .before .before .before .before .before .before .before .before .before .before .before .before .admit .ensures) ∙ c .before .before .before .before .before .before .before .before .before .before .rest .given .1)) .room)
@@ -30,12 +18,6 @@ clear-requires-2 c κs = omega (arith, (admitted _ _ _ _ _ _ (sym (c .before .be
 returns : tie.Need-returns
 returns c = judge-refused (c .before .before .before .before .before .before .before .before .pre) _ (sym (c .before .before .before .admit .ensures) ∙ c .before .r .given .1)
 
-same-length : tie.Need-same-length
-same-length c = search needs
-
-same-length-2 : tie.Need-same-length-2
-same-length-2 c = search needs
-
 returns-2 : tie.Need-returns-2
 returns-2 c = judge-answered (c .before .before .before .before .before .before .before .before .before .before .before .before .before .before .before .before .before .before .before .before .before .before .before .before .pre) (c .before .before .before .before .before .before .before .before .before .before .before .before .before .judge-from .last .1 .1 .1 .1 .1 .1 .0) (admitted _ _ _ _ _ _ (sym (c .before .before .before .before .before .before .before .before .before .before .before .before .before .before .before .before .before .before .before .admit .ensures) ∙ c .before .before .before .before .before .before .before .before .before .before .before .before .before .before .before .before .before .rest .given .1)) (c .before .before .before .before .before .before .before .before .before .before .before .before .before .judge-from .ensures .0) (c .before .before .before .before .before .before .before .before .before .before .before .before .before .judge-from .ensures .1 .0) (c .before .before .before .before .before .before .before .before .work-cells .ensures) (c .before .before .before .before .before .before .clear .ensures) (c .before .before .before .before .before .before .before .before .before .before .before .before .before .judge-from .ensures .1 .1) (c .before .before .clear2 .ensures)
 
@@ -43,14 +25,14 @@ pub judge-against-spec : {M : Type 1} → statement M
 judge-against-spec =
     tie.close
     (tie.spec
-    admit-requires
-    enum-known-r
-    enum-known-rest
+    (λ c κs. search needs)
+    (λ c. search needs)
+    (λ c. search needs)
     judge-from-requires
-    work-cells-requires
+    (λ c κs. search needs)
     clear-requires
     clear-requires-2
     returns
-    same-length
-    same-length-2
+    (λ c. search needs)
+    (λ c. search needs)
     returns-2)

@@ -8,29 +8,8 @@ use borrow.Author.Needs.{needs}
 use Rattle.judgement.proofs.whole.judge_from.Statement.{statement}
 use Rattle.judgement.proofs.whole.judge_from.Tie as tie
 
-judge-entries-requires : tie.Need-judge-entries-requires
-judge-entries-requires c κs = search needs
-
-enum-known-j : tie.Need-enum-known-j
-enum-known-j c = search needs
-
-enum-told : tie.Need-enum-told
-enum-told c = search needs
-
-cover-requires : tie.Need-cover-requires
-cover-requires c κs = search needs
-
-same-length : tie.Need-same-length
-same-length c = search needs
-
 returns : tie.Need-returns
 returns c = let f = rw (c .before .j .given .1) at (c .before .before .before .before .before .judge-entries .ensures .0) in (faulty _ f, (record { size = refl; rest = λ k h. refl }, c .before .before .before .before .before .judge-entries .ensures .1))
-
-same-length-2 : tie.Need-same-length-2
-same-length-2 c = search needs
-
-same-length-3 : tie.Need-same-length-3
-same-length-3 c = search needs
 
 returns-2 : tie.Need-returns-2
 returns-2 c = let f = rw (c .before .before .before .before .before .enum-told .given .1) at (c .before .before .before .before .before .before .before .before .before .judge-entries .ensures .0) in (covered-judged (omega (arith, states-are (c .before .before .before .before .before .before .before .before .before .before .before .before .before .before .before .before .pre .0), c .before .before .before .before .before .before .before .before .before .before .before .before .before .before .before .before .pre .0 .small .states)) (f .1) (f .2) (c .before .before .cover .ensures .0), (c .before .before .cover .ensures .1, c .before .before .before .before .before .before .before .before .before .judge-entries .ensures .1))
@@ -39,12 +18,12 @@ pub judge-from-spec : {M : Type 1} → statement M
 judge-from-spec =
     tie.close
     (tie.spec
-    judge-entries-requires
-    enum-known-j
-    enum-told
-    cover-requires
-    same-length
+    (λ c κs. search needs)
+    (λ c. search needs)
+    (λ c. search needs)
+    (λ c κs. search needs)
+    (λ c. search needs)
     returns
-    same-length-2
-    same-length-3
+    (λ c. search needs)
+    (λ c. search needs)
     returns-2)

@@ -10,89 +10,29 @@ Inv-loop cells₀ k₀ cells k = Unit
 abbrev μ-loop : tie.MeasureT-loop
 μ-loop cells₀ k₀ cells k = 12 - k
 
-loop-holds : tie.Need-loop-holds Inv-loop μ-loop
-loop-holds c = search needs
-
-cast-cells : tie.Need-cast-cells Inv-loop μ-loop
-cast-cells c = search needs
-
-mul-cells : tie.Need-mul-cells Inv-loop μ-loop
-mul-cells c = search needs
-
-add-cells : tie.Need-add-cells Inv-loop μ-loop
-add-cells c = search needs
-
-mul-cells-2 : tie.Need-mul-cells-2 Inv-loop μ-loop
-mul-cells-2 c = search needs
-
-add-cells-2 : tie.Need-add-cells-2 Inv-loop μ-loop
-add-cells-2 c = search needs
-
-mul-cells-3 : tie.Need-mul-cells-3 Inv-loop μ-loop
-mul-cells-3 c = search needs
-
-element-write-cells : tie.Need-element-write-cells Inv-loop μ-loop
-element-write-cells c = search needs
-
-cast-cells-2 : tie.Need-cast-cells-2 Inv-loop μ-loop
-cast-cells-2 c = search needs
-
-mul-cells-4 : tie.Need-mul-cells-4 Inv-loop μ-loop
-mul-cells-4 c = search needs
-
-add-cells-3 : tie.Need-add-cells-3 Inv-loop μ-loop
-add-cells-3 c = search needs
-
-mul-cells-5 : tie.Need-mul-cells-5 Inv-loop μ-loop
-mul-cells-5 c = search needs
-
-add-cells-4 : tie.Need-add-cells-4 Inv-loop μ-loop
-add-cells-4 c = search needs
-
-mul-cells-6 : tie.Need-mul-cells-6 Inv-loop μ-loop
-mul-cells-6 c = search needs
-
-element-write-cells-2 : tie.Need-element-write-cells-2 Inv-loop μ-loop
-element-write-cells-2 c = search needs
-
-gotos-after-requires : tie.Need-gotos-after-requires Inv-loop μ-loop
-gotos-after-requires c κs = search needs
-
-add-k : tie.Need-add-k Inv-loop μ-loop
-add-k c = search needs
-
-loop-less : tie.Need-loop-less Inv-loop μ-loop
-loop-less c = search needs
-
-loop-again : tie.Need-loop-again Inv-loop μ-loop
-loop-again c = search needs
-
-returns : tie.Need-returns Inv-loop μ-loop
-returns c = search needs
-
 pub fill-pairs-spec : {M : Type 1} → statement M
 fill-pairs-spec =
     tie.close
     (tie.spec
     Inv-loop
     μ-loop
-    loop-holds
-    cast-cells
-    mul-cells
-    add-cells
-    mul-cells-2
-    add-cells-2
-    mul-cells-3
-    element-write-cells
-    cast-cells-2
-    mul-cells-4
-    add-cells-3
-    mul-cells-5
-    add-cells-4
-    mul-cells-6
-    element-write-cells-2
-    gotos-after-requires
-    add-k
-    loop-less
-    loop-again
-    returns)
+    (λ c. search needs)
+    (λ c. search needs)
+    (λ c. search needs)
+    (λ c. search needs)
+    (λ c. search needs)
+    (λ c. search needs)
+    (λ c. search needs)
+    (λ c. search needs)
+    (λ c. search needs)
+    (λ c. search needs)
+    (λ c. search needs)
+    (λ c. search needs)
+    (λ c. search needs)
+    (λ c. search needs)
+    (λ c. search needs)
+    (λ c κs. search needs)
+    (λ c. search needs)
+    (λ c. search needs)
+    (λ c. search needs)
+    (λ c. search needs))

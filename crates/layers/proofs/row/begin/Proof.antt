@@ -5,9 +5,6 @@ use Rattle.layers.specs.LayerLaws.{begun}
 use borrow.Author.Needs.{needs}
 use Rattle.layers.proofs.row.begin.Statement.{statement}
 use Rattle.layers.proofs.row.begin.Tie as tie
-use Rattle.layers.proofs.row.begin.Reads as reads
-use Rattle.layers.proofs.row.begin.Lts as lts
-use Rattle.layers.proofs.row.turn_on.Reads as turn-on-reads
 
 turn-on-requires : tie.Need-turn-on-requires
 turn-on-requires c κs = search needs

@@ -7,9 +7,6 @@ use Rattle.layers.specs.LayerLaws.{on-already, on-cleared}
 use borrow.Author.Needs.{needs}
 use Rattle.layers.proofs.row.turn_on.Statement.{statement}
 use Rattle.layers.proofs.row.turn_on.Tie as tie
-use Rattle.layers.proofs.row.turn_on.Reads as reads
-use Rattle.layers.proofs.row.turn_on.Lts as lts
-use Rattle.layers.proofs.row.clear.Reads as clear-reads
 
 element-copy-out-if1 : tie.Need-element-copy-out-if1
 element-copy-out-if1 c = search needs

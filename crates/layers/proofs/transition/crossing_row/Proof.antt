@@ -5,8 +5,6 @@ use Rattle.layers.specs.CrossingLaws.{crossing-row-small}
 use borrow.Author.Needs.{needs}
 use Rattle.layers.proofs.transition.crossing_row.Statement.{statement}
 use Rattle.layers.proofs.transition.crossing_row.Tie as tie
-use Rattle.layers.proofs.transition.crossing_row.Reads as reads
-use Rattle.layers.proofs.transition.crossing_row.Lts as lts
 
 mul-result : tie.Need-mul-result
 mul-result c = omega (arith, crossing-row-small (c .args .d) (c .args .q) (c .args .x) (c .args .a) (c .pre .1 .0) (c .pre .1 .1) (c .pre .1 .2) (c .pre .0))

@@ -8,33 +8,15 @@ use Rattle.layers.specs.LengthenLaws.{step-goto, step-no-goto, step-goto
 use borrow.Author.Needs.{needs}
 use Rattle.layers.proofs.transition.goto_from.Statement.{statement}
 use Rattle.layers.proofs.transition.goto_from.Tie as tie
-use Rattle.layers.proofs.transition.goto_from.Reads as reads
-use Rattle.layers.proofs.transition.goto_from.Lts as lts
-use Rattle.book.proofs.goto_at.Reads as goto-at-reads
-use Rattle.layers.proofs.row.relax.Reads as relax-reads
-use Rattle.layers.proofs.row.turn_on.Reads as turn-on-reads
-use Rattle.layers.proofs.transition.crossing_row.Reads as crossing-row-reads
-
-goto-at-requires : tie.Need-goto-at-requires
-goto-at-requires c κs = search needs
 
 returns : tie.Need-returns
 returns c = (c .before .before .before .before .pre .1 .1, step-no-goto (c .before .before .before .before .pre .0) (claimIn (c .before .before .before .before .args .d) (c .before .before .before .before .args .table .now)) (c .before .before .before .before .args .q) (c .before .before .before .before .args .a) (c .before .before .before .before .args .v) (c .before .before .before .before .args .x) (sym (c .before .goto-at .ensures) ∙ c .if1 .taken))
-
-sub-g : tie.Need-sub-g
-sub-g c = search needs
-
-cast-g : tie.Need-cast-g
-cast-g c = search needs
 
 element-copy-out-if2 : tie.Need-element-copy-out-if2
 element-copy-out-if2 c = omega (arith, goto-least (c .before .before .before .before .pre .0) (c .before .before .before .before .args .q) (c .before .before .before .before .args .x) (c .before .before .before .before .pre .1 .0 .0) (c .before .before .before .before .pre .1 .0 .2), c .before .goto-at .ensures, c .before .before .before .before .pre .0 .small .states)
 
 returns-2 : tie.Need-returns-2
 returns-2 c = (c .before .before .before .before .before .before .pre .1 .1, step-goto-unwanted (c .before .before .before .before .before .before .pre .0) (claimIn (c .before .before .before .before .before .before .args .d) (c .before .before .before .before .before .before .args .table .now)) (c .before .before .before .before .before .before .args .q) (c .before .before .before .before .before .before .args .a) (c .before .before .before .before .before .before .args .v) (c .before .before .before .before .before .before .args .x) (omega (arith, c .before .before .before .goto-at .ensures)) (c .if2 .taken))
-
-crossing-row-requires : tie.Need-crossing-row-requires
-crossing-row-requires c κs = search needs
 
 turn-on-requires : tie.Need-turn-on-requires
 turn-on-requires c κs = (c .before .before .before .before .before .before .before .before .before .pre .1 .1, omega (arith, goto-least (c .before .before .before .before .before .before .before .before .before .pre .0) (c .before .before .before .before .before .before .before .before .before .args .q) (c .before .before .before .before .before .before .before .before .before .args .x) (c .before .before .before .before .before .before .before .before .before .pre .1 .0 .0) (c .before .before .before .before .before .before .before .before .before .pre .1 .0 .2), c .before .before .before .before .before .before .goto-at .ensures, c .before .before .before .before .before .before .before .before .before .pre .0 .small .states))
@@ -49,13 +31,13 @@ pub goto-from-spec : {M : Type 1} → statement M
 goto-from-spec =
     tie.close
     (tie.spec
-    goto-at-requires
+    (λ c κs. search needs)
     returns
-    sub-g
-    cast-g
+    (λ c. search needs)
+    (λ c. search needs)
     element-copy-out-if2
     returns-2
-    crossing-row-requires
+    (λ c κs. search needs)
     turn-on-requires
     relax-requires
     returns-3)

@@ -7,31 +7,9 @@ use Rattle.layers.specs.ActionLaws.{reduce-below, reduce-unopened, error
 use borrow.Author.Needs.{needs}
 use Rattle.layers.proofs.transition.opens.Statement.{statement}
 use Rattle.layers.proofs.transition.opens.Tie as tie
-use Rattle.layers.proofs.transition.opens.Reads as reads
-use Rattle.layers.proofs.transition.opens.Lts as lts
-use Rattle.book.proofs.action_at.Reads as action-at-reads
-use Rattle.book.proofs.production_length.Reads as production-length-reads
-
-action-at-requires : tie.Need-action-at-requires
-action-at-requires c κs = search needs
-
-enum-told : tie.Need-enum-told
-enum-told c = search needs
-
-enum-known-p : tie.Need-enum-known-p
-enum-known-p c = search needs
-
-cast-production-length : tie.Need-cast-production-length
-cast-production-length c = search needs
 
 production-length-requires : tie.Need-production-length-requires
 production-length-requires c κs = (c .before .before .before .before .before .pre .0, reduce-below _ _ (c .before .before .before .before .before .pre .0) (sym (c .before .before .before .action-at .ensures) ∙ c .before .p .given .1))
-
-enum-told-2 : tie.Need-enum-told-2
-enum-told-2 c = search needs
-
-enum-told-3 : tie.Need-enum-told-3
-enum-told-3 c = search needs
 
 returns : tie.Need-returns
 returns c = λ e. absurd (false≢true (sym e))
@@ -49,13 +27,13 @@ pub opens-spec : {M : Type 1} → statement M
 opens-spec =
     tie.close
     (tie.spec
-    action-at-requires
-    enum-told
-    enum-known-p
-    cast-production-length
+    (λ c κs. search needs)
+    (λ c. search needs)
+    (λ c. search needs)
+    (λ c. search needs)
     production-length-requires
-    enum-told-2
-    enum-told-3
+    (λ c. search needs)
+    (λ c. search needs)
     returns
     returns-2
     returns-3

@@ -3,10 +3,6 @@ use Rattle.finder.specs.ReachedLaws.{exact-reached}
 use borrow.Author.Needs.{needs}
 use Rattle.lines.proofs.counts.header_counts.Statement.{statement}
 use Rattle.lines.proofs.counts.header_counts.Tie as tie
-use Rattle.lines.proofs.counts.header_counts.Reads as reads
-use Rattle.lines.proofs.counts.header_counts.Lts as lts
-use Rattle.distances.proofs.from_start.Reads as from-start-reads
-use Rattle.lines.proofs.counts.rows.Reads as rows-reads
 
 from-start-requires : tie.Need-from-start-requires
 from-start-requires c κs = search needs

@@ -3,24 +3,6 @@ use mathlib.Core.Path.{refl}
 use borrow.Author.Needs.{needs}
 use Rattle.lines.proofs.counts.is_error.Statement.{statement}
 use Rattle.lines.proofs.counts.is_error.Tie as tie
-use Rattle.lines.proofs.counts.is_error.Reads as reads
-use Rattle.lines.proofs.counts.is_error.Lts as lts
-use Rattle.book.proofs.action_at.Reads as action-at-reads
-
-action-at-requires : tie.Need-action-at-requires
-action-at-requires c κs = search needs
-
-enum-told : tie.Need-enum-told
-enum-told c = search needs
-
-enum-told-2 : tie.Need-enum-told-2
-enum-told-2 c = search needs
-
-enum-told-3 : tie.Need-enum-told-3
-enum-told-3 c = search needs
-
-enum-told-4 : tie.Need-enum-told-4
-enum-told-4 c = search needs
 
 returns : tie.Need-returns
 returns c = rw (← c .before .before .action-at .ensures, c .enum-told .given .1) refl
@@ -38,11 +20,11 @@ pub is-error-spec : {M : Type 1} → statement M
 is-error-spec =
     tie.close
     (tie.spec
-    action-at-requires
-    enum-told
-    enum-told-2
-    enum-told-3
-    enum-told-4
+    (λ c κs. search needs)
+    (λ c. search needs)
+    (λ c. search needs)
+    (λ c. search needs)
+    (λ c. search needs)
     returns
     returns-2
     returns-3

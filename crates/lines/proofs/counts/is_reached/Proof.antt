@@ -4,8 +4,6 @@ use Rattle.layers.specs.Layer.{entryIn}
 use borrow.Author.Needs.{needs}
 use Rattle.lines.proofs.counts.is_reached.Statement.{statement}
 use Rattle.lines.proofs.counts.is_reached.Tie as tie
-use Rattle.lines.proofs.counts.is_reached.Reads as reads
-use Rattle.lines.proofs.counts.is_reached.Lts as lts
 
 mul-result : tie.Need-mul-result
 mul-result c = search needs

@@ -9,11 +9,6 @@ use Rattle.sets.specs.Set.{countOf}
 use Rattle.lines.specs.CountsLaws.{errorIn, failingIn, count-step, count-most, one-most}
 use Rattle.lines.proofs.counts.row.Statement.{statement}
 use Rattle.lines.proofs.counts.row.Tie as tie
-use Rattle.lines.proofs.counts.row.Reads as reads
-use Rattle.lines.proofs.counts.row.Lts as lts
-use Rattle.lines.proofs.counts.is_error.Reads as is-error-reads
-use Rattle.lines.proofs.counts.is_reached.Reads as is-reached-reads
-use Rattle.lines.proofs.counts.one_if.Reads as one-if-reads
 
 abbrev Inv-loop : tie.InvT-loop
 Inv-loop cells d dist q t errors₀ failing₀ a₀ errors failing a = (a ≤ t) × (errors ≡ countOf (errorIn cells q) a) × (failing ≡ countOf (failingIn cells dist q) a)
@@ -25,29 +20,11 @@ loop-holds : tie.Need-loop-holds Inv-loop μ-loop
 unfolding countOf
 loop-holds c = search needs
 
-is-error-requires : tie.Need-is-error-requires Inv-loop μ-loop
-is-error-requires c κs = search needs
-
-one-if-requires : tie.Need-one-if-requires Inv-loop μ-loop
-one-if-requires c κs = search needs
-
 add-errors : tie.Need-add-errors Inv-loop μ-loop
 add-errors c = record { fits = omega (arith, c .before .before .before .loop .inv .1, c .before .before .loop-test .taken, count-most (errorIn (c .before .before .before .before .before .args .cells .now) (c .before .before .before .before .before .args .q)) (c .before .before .before .loop .a), one-most (c .before .is-error .result), c .one-if .ensures) }
 
-is-reached-requires : tie.Need-is-reached-requires Inv-loop μ-loop
-is-reached-requires c κs = search needs
-
-one-if-requires-2 : tie.Need-one-if-requires-2 Inv-loop μ-loop
-one-if-requires-2 c κs = search needs
-
 add-failing : tie.Need-add-failing Inv-loop μ-loop
 add-failing c = record { fits = omega (arith, c .before .before .before .before .before .loop .inv .2, c .before .before .before .before .loop-test .taken, count-most (failingIn (c .before .before .before .before .before .before .before .args .cells .now) (c .before .before .before .before .before .before .before .args .dist .now) (c .before .before .before .before .before .before .before .args .q)) (c .before .before .before .before .before .loop .a), one-most (c .before .before .before .is-error .result && c .before .is-reached .result), c .one-if2 .ensures) }
-
-add-a : tie.Need-add-a Inv-loop μ-loop
-add-a c = search needs
-
-loop-less : tie.Need-loop-less Inv-loop μ-loop
-loop-less c = search needs
 
 loop-again : tie.Need-loop-again Inv-loop μ-loop
 loop-again c = (omega arith, count-step (errorIn (c .before .before .before .before .before .before .before .args .cells .now) (c .before .before .before .before .before .before .before .args .q)) _ _ _ (c .before .before .before .before .before .loop .inv .1) (c .before .before .one-if .ensures ∙ ap (λ (b : Bool). cond b 1 0) (c .before .before .before .is-error .ensures)), count-step (failingIn (c .before .before .before .before .before .before .before .args .cells .now) (c .before .before .before .before .before .before .before .args .dist .now) (c .before .before .before .before .before .before .before .args .q)) _ _ _ (c .before .before .before .before .before .loop .inv .2) (c .one-if2 .ensures ∙ ap₂ (λ (b e : Bool). cond (b && e) 1 0) (c .before .before .before .is-error .ensures) (c .before .is-reached .ensures)))
@@ -62,13 +39,13 @@ row-spec =
     Inv-loop
     μ-loop
     loop-holds
-    is-error-requires
-    one-if-requires
+    (λ c κs. search needs)
+    (λ c κs. search needs)
     add-errors
-    is-reached-requires
-    one-if-requires-2
+    (λ c κs. search needs)
+    (λ c κs. search needs)
     add-failing
-    add-a
-    loop-less
+    (λ c. search needs)
+    (λ c. search needs)
     loop-again
     returns)

@@ -8,9 +8,6 @@ use Rattle.lines.specs.Counts.{pairsOf}
 use Rattle.lines.specs.CountsLaws.{errorIn, failingIn, pairs-step, pairs-few, count-most}
 use Rattle.lines.proofs.counts.rows.Statement.{statement}
 use Rattle.lines.proofs.counts.rows.Tie as tie
-use Rattle.lines.proofs.counts.rows.Reads as reads
-use Rattle.lines.proofs.counts.rows.Lts as lts
-use Rattle.lines.proofs.counts.row.Reads as row-reads
 
 abbrev Inv-loop : tie.InvT-loop
 Inv-loop cells d dist s errors₀ failing₀ q₀ errors failing q = (q ≤ s) × (errors ≡ pairsOf (errorIn cells) (d .t) q) × (failing ≡ pairsOf (failingIn cells dist) (d .t) q)
@@ -22,20 +19,11 @@ loop-holds : tie.Need-loop-holds Inv-loop μ-loop
 unfolding pairsOf
 loop-holds c = search needs
 
-row-requires : tie.Need-row-requires Inv-loop μ-loop
-row-requires c κs = search needs
-
 add-errors : tie.Need-add-errors Inv-loop μ-loop
 add-errors c = record { fits = omega (arith, c .before .before .before .loop .inv .1, c .before .before .loop-test .taken, pairs-few (errorIn (c .before .before .before .before .before .args .cells .now)) (c .before .before .before .before .before .args .d) (c .before .before .before .loop .q) (c .before .before .before .before .before .pre .0 .small) (c .before .before .before .loop .inv .0), c .before .row .ensures .0, count-most (errorIn (c .before .before .before .before .before .args .cells .now) (c .before .before .before .loop .q)) (c .before .before .before .before .before .args .d .t), c .before .before .before .before .before .pre .0 .small .terminals) }
 
 add-failing : tie.Need-add-failing Inv-loop μ-loop
 add-failing c = record { fits = omega (arith, c .before .before .before .before .loop .inv .2, c .before .before .before .loop-test .taken, pairs-few (failingIn (c .before .before .before .before .before .before .args .cells .now) (c .before .before .before .before .before .before .args .dist .now)) (c .before .before .before .before .before .before .args .d) (c .before .before .before .before .loop .q) (c .before .before .before .before .before .before .pre .0 .small) (c .before .before .before .before .loop .inv .0), c .before .before .row .ensures .1, count-most (failingIn (c .before .before .before .before .before .before .args .cells .now) (c .before .before .before .before .before .before .args .dist .now) (c .before .before .before .before .loop .q)) (c .before .before .before .before .before .before .args .d .t), c .before .before .before .before .before .before .pre .0 .small .terminals) }
-
-add-q : tie.Need-add-q Inv-loop μ-loop
-add-q c = search needs
-
-loop-less : tie.Need-loop-less Inv-loop μ-loop
-loop-less c = search needs
 
 loop-again : tie.Need-loop-again Inv-loop μ-loop
 loop-again c = (omega arith, pairs-step (errorIn (c .before .before .before .before .before .before .args .cells .now)) _ _ _ _ (c .before .before .before .before .loop .inv .1) (c .before .before .row .ensures .0), pairs-step (failingIn (c .before .before .before .before .before .before .args .cells .now) (c .before .before .before .before .before .before .args .dist .now)) _ _ _ _ (c .before .before .before .before .loop .inv .2) (c .before .before .row .ensures .1))
@@ -50,10 +38,10 @@ rows-spec =
     Inv-loop
     μ-loop
     loop-holds
-    row-requires
+    (λ c κs. search needs)
     add-errors
     add-failing
-    add-q
-    loop-less
+    (λ c. search needs)
+    (λ c. search needs)
     loop-again
     returns)

@@ -6,15 +6,6 @@ use Rattle.lines.specs.LineLaws.{answered-fits, answered-line}
 use borrow.Author.Needs.{needs}
 use Rattle.lines.proofs.line.put_pair.Statement.{statement}
 use Rattle.lines.proofs.line.put_pair.Tie as tie
-use Rattle.lines.proofs.line.put_pair.Reads as reads
-use Rattle.lines.proofs.line.put_pair.Lts as lts
-use Rattle.finder.proofs.answer.Reads as answer-reads
-use Rattle.lines.proofs.line.put_found.Reads as put-found-reads
-use Rattle.lines.proofs.put.put_next.Reads as put-next-reads
-use Rattle.lines.proofs.put.put_number.Reads as put-number-reads
-
-answer-requires : tie.Need-answer-requires
-answer-requires c κs = search needs
 
 put-number-requires : tie.Need-put-number-requires
 put-number-requires c κs = omega (arith, c .before .before .before .before .before .before .before .before .before .pre .1 .1, decimal-most (c .before .before .before .before .before .before .before .before .before .args .s))
@@ -25,12 +16,6 @@ put-next-requires c κs = omega (arith, c .before .before .before .before .befor
 put-found-requires : tie.Need-put-found-requires
 put-found-requires c κs = (answered-fits (c .before .before .before .before .before .before .before .before .before .before .before .before .answer .ensures), omega (arith, c .before .before .before .before .before .before .before .before .before .before .before .before .before .before .before .before .before .before .pre .1 .1, decimal-most (c .before .before .before .before .before .before .before .before .before .before .before .before .before .before .before .before .before .before .args .s), c .before .before .before .before .before .before .before .before .put-number .ensures .after, c .before .before .before .before .before .before .before .before .put-number .kept .1 .0, decimal-most (c .before .before .before .before .before .before .before .before .before .before .before .before .before .before .before .before .before .before .args .z), c .before .before .before .before .put-next .ensures .after, c .before .before .before .before .put-next .kept .1 .0))
 
-same-length : tie.Need-same-length
-same-length c = search needs
-
-same-length-2 : tie.Need-same-length-2
-same-length-2 c = search needs
-
 returns : tie.Need-returns
 returns c = (answered-line (c .before .before .before .before .before .before .before .before .before .before .before .before .before .before .before .answer .ensures) (put-then (put-then (c .before .before .before .before .before .before .before .before .before .before .before .put-number .ensures) (c .before .before .before .before .before .before .before .put-next .ensures)) (c .before .before .put-found .ensures .0)), omega (arith, decimal-most (c .before .before .before .before .before .before .before .before .before .before .before .before .before .before .before .before .before .before .before .before .before .args .s), c .before .before .before .before .before .before .before .before .before .before .before .put-number .ensures .after, decimal-most (c .before .before .before .before .before .before .before .before .before .before .before .before .before .before .before .before .before .before .before .before .before .args .z), c .before .before .before .before .before .before .before .put-next .ensures .after, c .before .before .put-found .ensures .1))
 
@@ -38,10 +23,10 @@ pub put-pair-spec : {M : Type 1} → statement M
 put-pair-spec =
     tie.close
     (tie.spec
-    answer-requires
+    (λ c κs. search needs)
     put-number-requires
     put-next-requires
     put-found-requires
-    same-length
-    same-length-2
+    (λ c. search needs)
+    (λ c. search needs)
     returns)

@@ -5,11 +5,6 @@ use Rattle.lines.specs.PutLaws.{put-then}
 use borrow.Author.Needs.{needs}
 use Rattle.lines.proofs.line.put_sentence.Statement.{statement}
 use Rattle.lines.proofs.line.put_sentence.Tie as tie
-use Rattle.lines.proofs.line.put_sentence.Reads as reads
-use Rattle.lines.proofs.line.put_sentence.Lts as lts
-use Rattle.lines.proofs.put.put.Reads as put-reads
-use Rattle.lines.proofs.put.put_next.Reads as put-next-reads
-use Rattle.lines.proofs.put.put_symbols.Reads as put-symbols-reads
 
 put-next-requires : tie.Need-put-next-requires
 put-next-requires c κs = omega (arith, c .before .before .before .pre, decimal-most (c .before .before .before .args .n))
@@ -17,14 +12,8 @@ put-next-requires c κs = omega (arith, c .before .before .before .pre, decimal-
 put-symbols-requires : tie.Need-put-symbols-requires
 put-symbols-requires c κs = (c .before .before .before .before .before .before .before .pre .1, omega (arith, c .before .before .before .before .before .before .before .pre, decimal-most (c .before .before .before .before .before .before .before .args .n), c .before .before .before .put-next .ensures .after, c .before .before .before .put-next .kept .1 .0))
 
-slice-aggregate-put : tie.Need-slice-aggregate-put
-slice-aggregate-put c = search needs
-
 put-requires : tie.Need-put-requires
 put-requires c κs = omega (arith, c .before .before .before .before .before .before .before .before .before .before .before .before .pre, decimal-most (c .before .before .before .before .before .before .before .before .before .before .before .before .args .n), c .before .before .before .before .before .before .before .before .put-next .ensures .after, c .before .before .before .before .before .before .before .before .put-next .kept .1 .0, c .before .before .before .before .put-symbols .ensures .1, c .before .before .before .before .put-symbols .kept .1 .1 .0)
-
-same-length : tie.Need-same-length
-same-length c = search needs
 
 returns : tie.Need-returns
 returns c = (put-then (put-then (c .before .before .before .before .before .before .before .before .before .before .before .put-next .ensures) (c .before .before .before .before .before .before .before .put-symbols .ensures .0)) (c .before .before .put .ensures), omega (arith, c .before .before .before .before .before .before .before .before .before .before .before .before .before .before .before .pre, decimal-most (c .before .before .before .before .before .before .before .before .before .before .before .before .before .before .before .args .n), c .before .before .before .before .before .before .before .before .before .before .before .put-next .ensures .after, c .before .before .before .before .before .before .before .put-symbols .ensures .1, c .before .before .put .ensures .after))
@@ -35,7 +24,7 @@ put-sentence-spec =
     (tie.spec
     put-next-requires
     put-symbols-requires
-    slice-aggregate-put
+    (λ c. search needs)
     put-requires
-    same-length
+    (λ c. search needs)
     returns)

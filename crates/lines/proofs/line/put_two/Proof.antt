@@ -6,11 +6,6 @@ use Rattle.lines.specs.LineLaws.{two-words}
 use borrow.Author.Needs.{needs}
 use Rattle.lines.proofs.line.put_two.Statement.{statement}
 use Rattle.lines.proofs.line.put_two.Tie as tie
-use Rattle.lines.proofs.line.put_two.Reads as reads
-use Rattle.lines.proofs.line.put_two.Lts as lts
-use Rattle.lines.proofs.put.put.Reads as put-reads
-use Rattle.lines.proofs.put.put_next.Reads as put-next-reads
-use Rattle.lines.proofs.put.put_next_word.Reads as put-next-word-reads
 
 put-requires : tie.Need-put-requires
 put-requires c κs = omega (arith, c .before .before .before .before .pre)
@@ -24,14 +19,8 @@ put-next-word-requires c κs = omega (arith, c .before .before .before .before .
 put-next-requires-2 : tie.Need-put-next-requires-2
 put-next-requires-2 c κs = omega (arith, c .before .before .before .before .before .before .before .before .before .before .before .before .before .before .before .before .pre, c .before .before .before .before .before .before .before .before .before .before .before .put .ensures .after, c .before .before .before .before .before .before .before .before .before .before .before .put .kept .1 .0, decimal-most (c .before .before .before .before .before .before .before .before .before .before .before .before .before .before .before .before .args .n), c .before .before .before .before .before .before .before .put-next .ensures .after, c .before .before .before .before .before .before .before .put-next .kept .1 .0, c .before .before .before .put-next-word .ensures .after, c .before .before .before .put-next-word .kept .1 .0, decimal-most (c .before .before .before .before .before .before .before .before .before .before .before .before .before .before .before .before .args .m))
 
-slice-aggregate-put : tie.Need-slice-aggregate-put
-slice-aggregate-put c = search needs
-
 put-requires-2 : tie.Need-put-requires-2
 put-requires-2 c κs = omega (arith, c .before .before .before .before .before .before .before .before .before .before .before .before .before .before .before .before .before .before .before .before .before .pre, c .before .before .before .before .before .before .before .before .before .before .before .before .before .before .before .before .put .ensures .after, c .before .before .before .before .before .before .before .before .before .before .before .before .before .before .before .before .put .kept .1 .0, decimal-most (c .before .before .before .before .before .before .before .before .before .before .before .before .before .before .before .before .before .before .before .before .before .args .n), c .before .before .before .before .before .before .before .before .before .before .before .before .put-next .ensures .after, c .before .before .before .before .before .before .before .before .before .before .before .before .put-next .kept .1 .0, c .before .before .before .before .before .before .before .before .put-next-word .ensures .after, c .before .before .before .before .before .before .before .before .put-next-word .kept .1 .0, decimal-most (c .before .before .before .before .before .before .before .before .before .before .before .before .before .before .before .before .before .before .before .before .before .args .m), c .before .before .before .before .put-next2 .ensures .after, c .before .before .before .before .put-next2 .kept .1 .0)
-
-same-length : tie.Need-same-length
-same-length c = search needs
 
 returns : tie.Need-returns
 returns c = (rw two-words at (put-then (put-then (put-then (put-then (c .before .before .before .before .before .before .before .before .before .before .before .before .before .before .before .before .before .before .before .put .ensures) (c .before .before .before .before .before .before .before .before .before .before .before .before .before .before .before .put-next .ensures)) (c .before .before .before .before .before .before .before .before .before .before .before .put-next-word .ensures)) (c .before .before .before .before .before .before .before .put-next2 .ensures)) (c .before .before .put2 .ensures)), omega (arith, c .before .before .before .before .before .before .before .before .before .before .before .before .before .before .before .before .before .before .before .before .before .before .before .before .pre, c .before .before .before .before .before .before .before .before .before .before .before .before .before .before .before .before .before .before .before .put .ensures .after, decimal-most (c .before .before .before .before .before .before .before .before .before .before .before .before .before .before .before .before .before .before .before .before .before .before .before .before .args .n), c .before .before .before .before .before .before .before .before .before .before .before .before .before .before .before .put-next .ensures .after, c .before .before .before .before .before .before .before .before .before .before .before .put-next-word .ensures .after, decimal-most (c .before .before .before .before .before .before .before .before .before .before .before .before .before .before .before .before .before .before .before .before .before .before .before .before .args .m), c .before .before .before .before .before .before .before .put-next2 .ensures .after, c .before .before .put2 .ensures .after))
@@ -44,7 +33,7 @@ put-two-spec =
     put-next-requires
     put-next-word-requires
     put-next-requires-2
-    slice-aggregate-put
+    (λ c. search needs)
     put-requires-2
-    same-length
+    (λ c. search needs)
     returns)

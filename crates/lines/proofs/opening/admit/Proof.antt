@@ -6,19 +6,6 @@ use Rattle.lines.specs.Prepare.{admits}
 use borrow.Author.Needs.{needs}
 use Rattle.lines.proofs.opening.admit.Statement.{statement}
 use Rattle.lines.proofs.opening.admit.Tie as tie
-use Rattle.lines.proofs.opening.admit.Reads as reads
-use Rattle.lines.proofs.opening.admit.Lts as lts
-use Rattle.book.proofs.check.Reads as check-reads
-use Rattle.finder.proofs.work_cells.Reads as work-cells-reads
-
-check-requires : tie.Need-check-requires
-check-requires c κs = search needs
-
-enum-known-found : tie.Need-enum-known-found
-enum-known-found c = search needs
-
-enum-told : tie.Need-enum-told
-enum-told c = search needs
 
 returns : tie.Need-returns
 unfolding admits
@@ -39,9 +26,9 @@ pub admit-spec : {M : Type 1} → statement M
 admit-spec =
     tie.close
     (tie.spec
-    check-requires
-    enum-known-found
-    enum-told
+    (λ c κs. search needs)
+    (λ c. search needs)
+    (λ c. search needs)
     returns
     work-cells-requires
     returns-2

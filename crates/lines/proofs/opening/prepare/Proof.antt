@@ -7,28 +7,12 @@ use Rattle.lines.specs.PrepareLaws.{admits-valid}
 use borrow.Author.Needs.{needs}
 use Rattle.lines.proofs.opening.prepare.Statement.{statement}
 use Rattle.lines.proofs.opening.prepare.Tie as tie
-use Rattle.lines.proofs.opening.prepare.Reads as reads
-use Rattle.lines.proofs.opening.prepare.Lts as lts
-use Rattle.crossings.proofs.crossings.Reads as crossings-reads
-use Rattle.lines.proofs.opening.admit.Reads as admit-reads
-
-admit-requires : tie.Need-admit-requires
-admit-requires c κs = search needs
-
-enum-known-found : tie.Need-enum-known-found
-enum-known-found c = search needs
-
-enum-told : tie.Need-enum-told
-enum-told c = search needs
 
 returns : tie.Need-returns
 returns c = rw (c .enum-told .given .1) (refuses _ (sym (c .before .before .admit .ensures) ∙ c .enum-told .given .1))
 
 crossings-requires : tie.Need-crossings-requires
 crossings-requires c κs = let a = admits-valid _ _ _ (sym (c .before .before .before .before .admit .ensures) ∙ c .before .before .found .given .1) in (valid-holds _ _ (a .book), omega (arith, a .room))
-
-same-length : tie.Need-same-length
-same-length c = search needs
 
 returns-2 : tie.Need-returns-2
 returns-2 c = prepares _ (sym (c .before .before .before .before .before .before .before .admit .ensures) ∙ c .before .before .before .before .before .found .given .1) (c .before .before .crossings .ensures .0)
@@ -37,10 +21,10 @@ pub prepare-spec : {M : Type 1} → statement M
 prepare-spec =
     tie.close
     (tie.spec
-    admit-requires
-    enum-known-found
-    enum-told
+    (λ c κs. search needs)
+    (λ c. search needs)
+    (λ c. search needs)
     returns
     crossings-requires
-    same-length
+    (λ c. search needs)
     returns-2)

@@ -7,8 +7,6 @@ use Rattle.lines.specs.PutLaws.{Copied, copied-none, copied-more, copied
 use borrow.Author.Needs.{needs}
 use Rattle.lines.proofs.put.put.Statement.{statement}
 use Rattle.lines.proofs.put.put.Tie as tie
-use Rattle.lines.proofs.put.put.Reads as reads
-use Rattle.lines.proofs.put.put.Lts as lts
 
 abbrev Inv-loop : tie.InvT-loop
 Inv-loop word out₀ at n i₀ out i = (i ≤ n) × Copied word out₀ at out i
@@ -19,26 +17,8 @@ abbrev μ-loop : tie.MeasureT-loop
 loop-holds : tie.Need-loop-holds Inv-loop μ-loop
 loop-holds c = (omega arith, copied-none)
 
-shared-slice-read-out : tie.Need-shared-slice-read-out Inv-loop μ-loop
-shared-slice-read-out c = search needs
-
-add-out : tie.Need-add-out Inv-loop μ-loop
-add-out c = search needs
-
-slice-write-out : tie.Need-slice-write-out Inv-loop μ-loop
-slice-write-out c = search needs
-
-add-i : tie.Need-add-i Inv-loop μ-loop
-add-i c = search needs
-
-loop-less : tie.Need-loop-less Inv-loop μ-loop
-loop-less c = search needs
-
 loop-again : tie.Need-loop-again Inv-loop μ-loop
 loop-again c = (omega arith, copied-more (c .before .before .loop .inv .1) (c .before .loop-test .taken))
-
-add-result : tie.Need-add-result Inv-loop μ-loop
-add-result c = search needs
 
 same-length : tie.Need-same-length Inv-loop μ-loop
 same-length c = c .before .loop .inv .1 .size
@@ -53,12 +33,12 @@ put-spec =
     Inv-loop
     μ-loop
     loop-holds
-    shared-slice-read-out
-    add-out
-    slice-write-out
-    add-i
-    loop-less
+    (λ c. search needs)
+    (λ c. search needs)
+    (λ c. search needs)
+    (λ c. search needs)
+    (λ c. search needs)
     loop-again
-    add-result
+    (λ c. search needs)
     same-length
     returns)

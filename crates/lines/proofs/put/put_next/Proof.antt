@@ -5,9 +5,6 @@ use Rattle.lines.specs.PutLaws.{put-after}
 use borrow.Author.Needs.{needs}
 use Rattle.lines.proofs.put.put_next.Statement.{statement}
 use Rattle.lines.proofs.put.put_next.Tie as tie
-use Rattle.lines.proofs.put.put_next.Reads as reads
-use Rattle.lines.proofs.put.put_next.Lts as lts
-use Rattle.lines.proofs.put.put_number.Reads as put-number-reads
 
 slice-write-out : tie.Need-slice-write-out
 slice-write-out c = search needs

@@ -5,9 +5,6 @@ use Rattle.lines.specs.PutLaws.{put-after}
 use borrow.Author.Needs.{needs}
 use Rattle.lines.proofs.put.put_next_word.Statement.{statement}
 use Rattle.lines.proofs.put.put_next_word.Tie as tie
-use Rattle.lines.proofs.put.put_next_word.Reads as reads
-use Rattle.lines.proofs.put.put_next_word.Lts as lts
-use Rattle.lines.proofs.put.put.Reads as put-reads
 
 slice-write-out : tie.Need-slice-write-out
 slice-write-out c = search needs

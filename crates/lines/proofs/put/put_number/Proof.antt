@@ -3,10 +3,6 @@ use Rattle.lines.specs.DecimalLaws.{spelt-part}
 use borrow.Author.Needs.{needs}
 use Rattle.lines.proofs.put.put_number.Statement.{statement}
 use Rattle.lines.proofs.put.put_number.Tie as tie
-use Rattle.lines.proofs.put.put_number.Reads as reads
-use Rattle.lines.proofs.put.put_number.Lts as lts
-use Rattle.lines.proofs.put.put.Reads as put-reads
-use Rattle.lines.proofs.put.spell.Reads as spell-reads
 
 spell-requires : tie.Need-spell-requires
 spell-requires c κs = search needs

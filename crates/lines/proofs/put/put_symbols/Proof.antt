@@ -8,10 +8,6 @@ use lib.ListN.{getD}
 use borrow.Author.Needs.{needs}
 use Rattle.lines.proofs.put.put_symbols.Statement.{statement}
 use Rattle.lines.proofs.put.put_symbols.Tie as tie
-use Rattle.lines.proofs.put.put_symbols.Reads as reads
-use Rattle.lines.proofs.put.put_symbols.Lts as lts
-use Rattle.lines.proofs.put.put_next.Reads as put-next-reads
-use Rattle.lines.proofs.put.wide.Reads as wide-reads
 
 abbrev Inv-loop : tie.InvT-loop
 Inv-loop sentence n out₀ at next₀ i₀ out next i = (i ≤ n) × Spelt sentence out₀ at out next i
@@ -22,20 +18,8 @@ abbrev μ-loop : tie.MeasureT-loop
 loop-holds : tie.Need-loop-holds Inv-loop μ-loop
 loop-holds c = (omega arith, spelt-none)
 
-shared-slice-read-wide : tie.Need-shared-slice-read-wide Inv-loop μ-loop
-shared-slice-read-wide c = search needs
-
-wide-requires : tie.Need-wide-requires Inv-loop μ-loop
-wide-requires c κs = search needs
-
 put-next-requires : tie.Need-put-next-requires Inv-loop μ-loop
 put-next-requires c κs = let byte : getD (c .before .before .before .before .before .before .before .args .sentence .now) (c .before .before .before .before .loop .i) 0 < 256 = omega (arith, c .before .before .shared-slice-known2 .given (c .before .before .before .before .loop .i)) in rw (c .before .wide .ensures) (omega (arith, decimal-byte _ byte, c .before .before .before .before .loop .inv .1 .near, c .before .before .before .before .loop .inv .1 .size, c .before .before .before .before .before .before .before .pre))
-
-add-i : tie.Need-add-i Inv-loop μ-loop
-add-i c = search needs
-
-loop-less : tie.Need-loop-less Inv-loop μ-loop
-loop-less c = search needs
 
 loop-again : tie.Need-loop-again Inv-loop μ-loop
 loop-again c = let byte : getD (c .before .before .before .before .before .before .before .before .before .before .args .sentence .now) (c .before .before .before .before .before .before .before .loop .i) 0 < 256 = omega (arith, c .before .before .before .before .before .shared-slice-known2 .given (c .before .before .before .before .before .before .before .loop .i)) in (omega arith, spelt-more (c .before .before .before .before .before .before .before .loop .inv .1) (omega (arith, c .before .before .before .before .before .before .before .before .before .before .pre, c .before .before .before .before .before .before .loop-test .taken)) byte (c .before .before .put-next .kept .1 .0) (rw (c .before .before .before .before .wide .ensures) at (c .before .before .put-next .ensures)))
@@ -53,11 +37,11 @@ put-symbols-spec =
     Inv-loop
     μ-loop
     loop-holds
-    shared-slice-read-wide
-    wide-requires
+    (λ c. search needs)
+    (λ c κs. search needs)
     put-next-requires
-    add-i
-    loop-less
+    (λ c. search needs)
+    (λ c. search needs)
     loop-again
     same-length
     returns)

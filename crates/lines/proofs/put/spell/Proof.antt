@@ -5,8 +5,6 @@ use Rattle.lines.specs.DecimalLaws.{Spelling, spelling-none, spelling-mo
 use borrow.Author.Needs.{needs}
 use Rattle.lines.proofs.put.spell.Statement.{statement}
 use Rattle.lines.proofs.put.spell.Tie as tie
-use Rattle.lines.proofs.put.spell.Reads as reads
-use Rattle.lines.proofs.put.spell.Lts as lts
 
 abbrev Inv-loop : tie.InvT-loop
 Inv-loop n text₀ i₀ rest₀ text i rest = (i ≤ 20) × Spelling n text i rest
@@ -17,23 +15,8 @@ abbrev μ-loop : tie.MeasureT-loop
 loop-holds : tie.Need-loop-holds Inv-loop μ-loop
 loop-holds c = (omega arith, spelling-none (c .pre))
 
-sub-i : tie.Need-sub-i Inv-loop μ-loop
-sub-i c = search needs
-
-cast-text : tie.Need-cast-text Inv-loop μ-loop
-cast-text c = search needs
-
-add-text : tie.Need-add-text Inv-loop μ-loop
-add-text c = search needs
-
-element-write-text : tie.Need-element-write-text Inv-loop μ-loop
-element-write-text c = search needs
-
 returns : tie.Need-returns Inv-loop μ-loop
 returns c = (search needs, omega arith, spelling-last (c .before .before .loop .inv .1) (c .before .loop-test .taken) (c .before .before .loop .inv .0) (c .if1 .taken))
-
-loop-less : tie.Need-loop-less Inv-loop μ-loop
-loop-less c = search needs
 
 loop-again : tie.Need-loop-again Inv-loop μ-loop
 loop-again c = (omega arith, spelling-more (c .before .before .loop .inv .1) (c .before .loop-test .taken) (c .before .before .loop .inv .0) (c .if1 .left))
@@ -48,11 +31,11 @@ spell-spec =
     Inv-loop
     μ-loop
     loop-holds
-    sub-i
-    cast-text
-    add-text
-    element-write-text
+    (λ c. search needs)
+    (λ c. search needs)
+    (λ c. search needs)
+    (λ c. search needs)
     returns
-    loop-less
+    (λ c. search needs)
     loop-again
     returns-2)

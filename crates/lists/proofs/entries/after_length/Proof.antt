@@ -5,30 +5,6 @@ use borrow.Author.Needs.{needs}
 use Rattle.lists.proofs.entries.after_length.Statement.{statement}
 use Rattle.lists.proofs.entries.after_length.Tie as tie
 
-symbol-row-requires : tie.Need-symbol-row-requires
-symbol-row-requires c κs = search needs
-
-enum-known-r : tie.Need-enum-known-r
-enum-known-r c = search needs
-
-enum-known-next : tie.Need-enum-known-next
-enum-known-next c = search needs
-
-read-requires : tie.Need-read-requires
-read-requires c κs = search needs
-
-admit-requires : tie.Need-admit-requires
-admit-requires c κs = search needs
-
-enum-known-r-2 : tie.Need-enum-known-r-2
-enum-known-r-2 c = search needs
-
-enum-known-z : tie.Need-enum-known-z
-enum-known-z c = search needs
-
-cast-t17 : tie.Need-cast-t17
-cast-t17 c = search needs
-
 returns : tie.Need-returns
 returns c = symbols-stop _ _ _ _ _ (sym (c .before .before .before .symbol-row .ensures) ∙ c .before .r .given .1)
 
@@ -42,14 +18,14 @@ pub after-length-spec : {M : Type 1} → statement M
 after-length-spec =
     tie.close
     (tie.spec
-    symbol-row-requires
-    enum-known-r
-    enum-known-next
-    read-requires
-    admit-requires
-    enum-known-r-2
-    enum-known-z
-    cast-t17
+    (λ c κs. search needs)
+    (λ c. search needs)
+    (λ c. search needs)
+    (λ c κs. search needs)
+    (λ c κs. search needs)
+    (λ c. search needs)
+    (λ c. search needs)
+    (λ c. search needs)
     returns
     returns-2
     returns-3)

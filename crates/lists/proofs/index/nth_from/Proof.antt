@@ -18,32 +18,14 @@ loop-holds c = skipped-none (c .before .pre)
 next-entry-in-requires : tie.Need-next-entry-in-requires Inv-loop μ-loop
 next-entry-in-requires c κs = c .before .loop .inv .stands
 
-enum-known-rest : tie.Need-enum-known-rest Inv-loop μ-loop
-enum-known-rest c = search needs
-
-enum-told : tie.Need-enum-told Inv-loop μ-loop
-enum-told c = search needs
-
 returns : tie.Need-returns Inv-loop μ-loop
 returns c = record { is = skipped-stop (c .before .before .before .before .loop .inv) (sym (c .before .before .next-entry-in .ensures) ∙ c .enum-told .given .1) }
-
-add-i : tie.Need-add-i Inv-loop μ-loop
-add-i c = search needs
-
-loop-less : tie.Need-loop-less Inv-loop μ-loop
-loop-less c = search needs
 
 loop-again : tie.Need-loop-again Inv-loop μ-loop
 loop-again c = skipped-more (c .before .before .before .before .before .loop .inv) (c .before .before .before .before .loop-test .taken) (sym (c .before .before .before .next-entry-in .ensures) ∙ c .before .rest .given .1)
 
 next-entry-in-requires-2 : tie.Need-next-entry-in-requires-2 Inv-loop μ-loop
 next-entry-in-requires-2 c κs = c .before .loop .inv .stands
-
-enum-told-2 : tie.Need-enum-told-2 Inv-loop μ-loop
-enum-told-2 c = search needs
-
-enum-known-e : tie.Need-enum-known-e Inv-loop μ-loop
-enum-known-e c = search needs
 
 returns-2 : tie.Need-returns-2 Inv-loop μ-loop
 returns-2 c = record { is = skipped-stop (c .before .before .before .before .loop .inv) (sym (c .before .before .next-entry-in2 .ensures) ∙ c .enum-told2 .given .1) }
@@ -59,14 +41,14 @@ nth-from-spec =
     μ-loop
     loop-holds
     next-entry-in-requires
-    enum-known-rest
-    enum-told
+    (λ c. search needs)
+    (λ c. search needs)
     returns
-    add-i
-    loop-less
+    (λ c. search needs)
+    (λ c. search needs)
     loop-again
     next-entry-in-requires-2
-    enum-told-2
-    enum-known-e
+    (λ c. search needs)
+    (λ c. search needs)
     returns-2
     returns-3)

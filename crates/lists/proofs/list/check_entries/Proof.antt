@@ -5,27 +5,6 @@ use borrow.Author.Needs.{needs}
 use Rattle.lists.proofs.list.check_entries.Statement.{statement}
 use Rattle.lists.proofs.list.check_entries.Tie as tie
 
-read-requires : tie.Need-read-requires
-read-requires c κs = search needs
-
-admit-requires : tie.Need-admit-requires
-admit-requires c κs = search needs
-
-enum-known-r : tie.Need-enum-known-r
-enum-known-r c = search needs
-
-enum-known-n : tie.Need-enum-known-n
-enum-known-n c = search needs
-
-cast-count : tie.Need-cast-count
-cast-count c = search needs
-
-entry-row-requires : tie.Need-entry-row-requires
-entry-row-requires c κs = search needs
-
-close-requires : tie.Need-close-requires
-close-requires c κs = search needs
-
 returns : tie.Need-returns
 returns c = listing-stop _ _ _ (rw (c .before .before .before .before .read .ensures, c .before .r .given .1) at (sym (c .before .before .before .admit .ensures)))
 
@@ -36,12 +15,12 @@ pub check-entries-spec : {M : Type 1} → statement M
 check-entries-spec =
     tie.close
     (tie.spec
-    read-requires
-    admit-requires
-    enum-known-r
-    enum-known-n
-    cast-count
-    entry-row-requires
-    close-requires
+    (λ c κs. search needs)
+    (λ c κs. search needs)
+    (λ c. search needs)
+    (λ c. search needs)
+    (λ c. search needs)
+    (λ c κs. search needs)
+    (λ c κs. search needs)
     returns
     returns-2)

@@ -6,21 +6,6 @@ use borrow.Author.Needs.{needs}
 use Rattle.lists.proofs.range.admit.Statement.{statement}
 use Rattle.lists.proofs.range.admit.Tie as tie
 
-enum-known-found : tie.Need-enum-known-found
-enum-known-found c = search needs
-
-enum-told : tie.Need-enum-told
-enum-told c = search needs
-
-returns : tie.Need-returns
-returns c = search needs
-
-cast-n : tie.Need-cast-n
-cast-n c = search needs
-
-refused-requires : tie.Need-refused-requires
-refused-requires c κs = search needs
-
 returns-2 : tie.Need-returns-2
 unfolding outside
 returns-2 c = rw (c .before .before .before .found .given .1, lt-leb _ _ (c .before .if1 .taken), ne-eqb (c .before .before .before .before .before .args .number) 0 (omega arith)) (c .refused .ensures)
@@ -28,9 +13,6 @@ returns-2 c = rw (c .before .before .before .found .given .1, lt-leb _ _ (c .bef
 returns-3 : tie.Need-returns-3
 unfolding outside
 returns-3 c = rw (c .before .before .before .found .given .1, le-leb _ _ (c .before .if1 .left), lt-ltb _ _ (c .if2 .taken))
-
-refused-requires-2 : tie.Need-refused-requires-2
-refused-requires-2 c κs = search needs
 
 returns-4 : tie.Need-returns-4
 unfolding outside
@@ -40,12 +22,12 @@ pub admit-spec : {M : Type 1} → statement M
 admit-spec =
     tie.close
     (tie.spec
-    enum-known-found
-    enum-told
-    returns
-    cast-n
-    refused-requires
+    (λ c. search needs)
+    (λ c. search needs)
+    (λ c. search needs)
+    (λ c. search needs)
+    (λ c κs. search needs)
     returns-2
     returns-3
-    refused-requires-2
+    (λ c κs. search needs)
     returns-4)

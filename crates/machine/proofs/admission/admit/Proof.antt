@@ -4,10 +4,6 @@ use Rattle.machine.specs.Run.{admitted}
 use borrow.Author.Needs.{needs}
 use Rattle.machine.proofs.admission.admit.Statement.{statement}
 use Rattle.machine.proofs.admission.admit.Tie as tie
-use Rattle.machine.proofs.admission.admit.Reads as reads
-use Rattle.machine.proofs.admission.admit.Lts as lts
-use Rattle.book.proofs.check.Reads as check-reads
-use Rattle.machine.proofs.admission.admit_input.Reads as admit-input-reads
 
 check-requires : tie.Need-check-requires
 check-requires c κs = search needs

@@ -9,8 +9,6 @@ use Rattle.machine.specs.AdmissionLaws.{sound-more, sound-zero, sound-hi
 use borrow.Author.Needs.{needs}
 use Rattle.machine.proofs.admission.first_unsound.Statement.{statement}
 use Rattle.machine.proofs.admission.first_unsound.Tie as tie
-use Rattle.machine.proofs.admission.first_unsound.Reads as reads
-use Rattle.machine.proofs.admission.first_unsound.Lts as lts
 
 abbrev Inv-loop : tie.InvT-loop
 Inv-loop sentence t i₀ i = (i ≤ length sentence) × (sound t sentence ≡ i + sound t (drop i sentence))
@@ -21,9 +19,6 @@ abbrev μ-loop : tie.MeasureT-loop
 loop-holds : tie.Need-loop-holds Inv-loop μ-loop
 loop-holds c = (omega arith, sym (zero-add _))
 
-shared-slice-read-a : tie.Need-shared-slice-read-a Inv-loop μ-loop
-shared-slice-read-a c = search needs
-
 cast-a : tie.Need-cast-a Inv-loop μ-loop
 cast-a c = omega (arith, c .shared-slice-known .given (c .before .before .loop .i))
 
@@ -32,12 +27,6 @@ returns c = omega (arith, c .before .before .before .loop .inv .1, sound-zero (c
 
 returns-2 : tie.Need-returns-2 Inv-loop μ-loop
 returns-2 c = omega (arith, c .before .before .before .before .loop .inv .1, sound-high (c .before .before .before .before .before .args .t) (c .before .before .before .before .before .args .sentence .now) (c .before .before .before .before .loop .i) (c .before .before .before .loop-test .taken) (c .if2 .taken))
-
-add-i : tie.Need-add-i Inv-loop μ-loop
-add-i c = search needs
-
-loop-less : tie.Need-loop-less Inv-loop μ-loop
-loop-less c = search needs
 
 loop-again : tie.Need-loop-again Inv-loop μ-loop
 loop-again c = (omega arith, omega (arith, c .before .before .before .before .loop .inv .1, sound-more (c .before .before .before .before .before .args .t) (c .before .before .before .before .before .args .sentence .now) (c .before .before .before .before .loop .i) (c .before .before .before .loop-test .taken) (omega (arith, c .before .if1 .left)) (c .if2 .left)))
@@ -52,11 +41,11 @@ first-unsound-spec =
     Inv-loop
     μ-loop
     loop-holds
-    shared-slice-read-a
+    (λ c. search needs)
     cast-a
     returns
     returns-2
-    add-i
-    loop-less
+    (λ c. search needs)
+    (λ c. search needs)
     loop-again
     returns-3)

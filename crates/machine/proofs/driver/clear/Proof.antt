@@ -7,8 +7,6 @@ use Rattle.machine.specs.StackLaws.{Cleared, cleared-none, cleared-more,
 use borrow.Author.Needs.{needs}
 use Rattle.machine.proofs.driver.clear.Statement.{statement}
 use Rattle.machine.proofs.driver.clear.Tie as tie
-use Rattle.machine.proofs.driver.clear.Reads as reads
-use Rattle.machine.proofs.driver.clear.Lts as lts
 
 abbrev Inv-loop : tie.InvT-loop
 Inv-loop stack₀ depth i₀ stack i = (length stack ≡ length stack₀) × Cleared stack₀ stack depth i
@@ -19,17 +17,8 @@ abbrev μ-loop : tie.MeasureT-loop
 loop-holds : tie.Need-loop-holds Inv-loop μ-loop
 loop-holds c = (search needs, cleared-none (c .pre .0) (c .pre .1))
 
-mul-stack : tie.Need-mul-stack Inv-loop μ-loop
-mul-stack c = search needs
-
 slice-write-stack : tie.Need-slice-write-stack Inv-loop μ-loop
 slice-write-stack c = omega (arith, c .before .loop .inv .0, c .before .loop .inv .1 .room)
-
-add-i : tie.Need-add-i Inv-loop μ-loop
-add-i c = search needs
-
-loop-less : tie.Need-loop-less Inv-loop μ-loop
-loop-less c = search needs
 
 loop-again : tie.Need-loop-again Inv-loop μ-loop
 loop-again c = (simp length-set (c .before .loop .inv .0), cleared-more (c .before .loop .inv .1) (c .loop-test .taken))
@@ -47,10 +36,10 @@ clear-spec =
     Inv-loop
     μ-loop
     loop-holds
-    mul-stack
+    (λ c. search needs)
     slice-write-stack
-    add-i
-    loop-less
+    (λ c. search needs)
+    (λ c. search needs)
     loop-again
     same-length
     returns)

@@ -11,11 +11,6 @@ use Rattle.machine.specs.DrivingLaws.{Driving, driving-none, driving-mor
 use borrow.Author.Needs.{needs}
 use Rattle.machine.proofs.driver.drive.Statement.{statement}
 use Rattle.machine.proofs.driver.drive.Tie as tie
-use Rattle.machine.proofs.driver.drive.Reads as reads
-use Rattle.machine.proofs.driver.drive.Lts as lts
-use Rattle.machine.proofs.driver.clear.Reads as clear-reads
-use Rattle.machine.proofs.driver.finish.Reads as finish-reads
-use Rattle.machine.proofs.driver.take_in.Reads as take-in-reads
 
 abbrev Inv-loop : tie.InvT-loop
 Inv-loop cells d sentence z stack₀ depth₀ taken₀ stack depth taken = (length stack ≡ length stack₀) × Driving (tablesOf cells) (d .s) z sentence stack₀ stack depth taken
@@ -29,17 +24,11 @@ slice-write-stack c = omega (arith, c .before .before .before .pre .1 .1 .1)
 loop-holds : tie.Need-loop-holds Inv-loop μ-loop
 loop-holds c = (search needs, driving-none (c .before .before .before .args .stack .now) (c .before .before .before .pre .0 .small .some-state) (c .before .before .before .pre .1 .1 .1))
 
-shared-slice-read-take-in : tie.Need-shared-slice-read-take-in Inv-loop μ-loop
-shared-slice-read-take-in c = search needs
-
 cast-take-in : tie.Need-cast-take-in Inv-loop μ-loop
 cast-take-in c = omega (arith, c .shared-slice-known3 .given (c .before .before .before .loop .taken))
 
 take-in-requires : tie.Need-take-in-requires Inv-loop μ-loop
 take-in-requires c κs = (c .before .before .before .before .before .before .before .pre .0, (c .before .before .before .loop .inv .1 .settled .stacked, sound-at (c .before .before .before .before .before .before .before .args .d .t) (c .before .before .before .before .before .before .before .args .sentence .now) (c .before .before .before .loop .taken) (c .before .before .before .before .before .before .before .pre .1 .0) (c .before .before .loop-test .taken)))
-
-enum-known-e : tie.Need-enum-known-e Inv-loop μ-loop
-enum-known-e c = search needs
 
 clear-requires : tie.Need-clear-requires Inv-loop μ-loop
 clear-requires c κs = let h = rw (c .before .before .e .given .1) at (c .before .before .before .before .before .before .take-in .ensures) in (h .1 .stacked .most, h .1 .stacked .room)
@@ -49,15 +38,6 @@ same-length c = c .before .before .clear .kept .0 ∙ (c .before .before .before
 
 returns : tie.Need-returns Inv-loop μ-loop
 returns c = let h = rw (c .before .before .before .before .before .e .given .1) at (c .before .before .before .before .before .before .before .before .before .take-in .ensures) in driving-ended (c .before .before .before .before .before .before .before .before .before .before .before .before .before .loop .inv .1) (c .before .before .before .before .before .before .before .before .before .before .before .before .loop-test .taken) h (c .before .before .clear .ensures) ∙ delivered-set (c .before .before .before .before .before .before .before .before .before .before .before .before .before .before .before .before .before .args .stack .now) (runs (tablesOf (c .before .before .before .before .before .before .before .before .before .before .before .before .before .before .before .before .before .args .cells .now)) (c .before .before .before .before .before .before .before .before .before .before .before .before .before .before .before .before .before .args .z) (c .before .before .before .before .before .before .before .before .before .before .before .before .before .before .before .before .before .args .sentence .now) 0 (0 ∷ []))
-
-enum-known-n : tie.Need-enum-known-n Inv-loop μ-loop
-enum-known-n c = search needs
-
-add-taken : tie.Need-add-taken Inv-loop μ-loop
-add-taken c = search needs
-
-loop-less : tie.Need-loop-less Inv-loop μ-loop
-loop-less c = search needs
 
 loop-again : tie.Need-loop-again Inv-loop μ-loop
 loop-again c = let h = rw (c .before .n .given .1) at (c .before .before .before .before .before .take-in .ensures) in (search needs, driving-more (c .before .before .before .before .before .before .before .before .before .loop .inv .1) (c .before .before .before .before .before .before .before .before .loop-test .taken) h)
@@ -79,16 +59,16 @@ drive-spec =
     μ-loop
     slice-write-stack
     loop-holds
-    shared-slice-read-take-in
+    (λ c. search needs)
     cast-take-in
     take-in-requires
-    enum-known-e
+    (λ c. search needs)
     clear-requires
     same-length
     returns
-    enum-known-n
-    add-taken
-    loop-less
+    (λ c. search needs)
+    (λ c. search needs)
+    (λ c. search needs)
     loop-again
     finish-requires
     same-length-2

@@ -5,46 +5,15 @@ use Rattle.machine.specs.DrivingLaws.{fed-ended, fed-deep, fed-push}
 use borrow.Author.Needs.{needs}
 use Rattle.machine.proofs.driver.take_in.Statement.{statement}
 use Rattle.machine.proofs.driver.take_in.Tie as tie
-use Rattle.machine.proofs.driver.take_in.Reads as reads
-use Rattle.machine.proofs.driver.take_in.Lts as lts
-use Rattle.machine.proofs.looks.stop_at.Reads as stop-at-reads
-use Rattle.machine.proofs.reductions.reduce.Reads as reduce-reads
-
-reduce-requires : tie.Need-reduce-requires
-reduce-requires c κs = search needs
-
-enum-known-e : tie.Need-enum-known-e
-enum-known-e c = search needs
-
-enum-known-s : tie.Need-enum-known-s
-enum-known-s c = search needs
 
 stop-at-requires : tie.Need-stop-at-requires
 stop-at-requires c κs = let h = rw (c .before .before .before .s .given .1) at (c .before .before .before .before .before .before .before .reduce .ensures) in (h .1 .stacked .some, omega (arith, h .1 .stacked .most, h .1 .stacked .room))
 
-same-length : tie.Need-same-length
-same-length c = search needs
-
 returns : tie.Need-returns
 returns c = let h = rw (c .before .before .before .before .s .given .1) at (c .before .before .before .before .before .before .before .before .reduce .ensures) in rw (c .stop-at .ensures) (fed-deep (tablesOf (c .before .before .before .before .before .before .before .before .before .before .before .before .args .cells .now)) (c .before .before .before .before .before .before .before .before .before .before .before .before .args .a) (c .before .before .before .before .before .before .before .before .before .before .before .before .args .taken) (c .before .before .before .before .before .before .before .before .before .before .before .before .args .depth) (h .0) (h .1) (c .before .before .if1 .taken))
 
-mul-stack : tie.Need-mul-stack
-mul-stack c = search needs
-
-slice-write-stack : tie.Need-slice-write-stack
-slice-write-stack c = search needs
-
-add-t20 : tie.Need-add-t20
-add-t20 c = search needs
-
-same-length-2 : tie.Need-same-length-2
-same-length-2 c = search needs
-
 returns-2 : tie.Need-returns-2
 returns-2 c = let h = rw (c .before .e .given .1) at (c .before .before .before .before .before .reduce .ensures) in fed-ended (tablesOf (c .before .before .before .before .before .before .before .before .before .args .cells .now)) (c .before .before .before .before .before .before .before .before .before .args .a) (c .before .before .before .before .before .before .before .before .before .args .taken) (c .before .before .before .before .before .before .before .before .before .args .depth) (h .0) (h .1)
-
-same-length-3 : tie.Need-same-length-3
-same-length-3 c = search needs
 
 returns-3 : tie.Need-returns-3
 returns-3 c = let h = rw (c .before .before .s .given .1) at (c .before .before .before .before .before .before .reduce .ensures) in fed-push (tablesOf (c .before .before .before .before .before .before .before .before .before .before .args .cells .now)) (c .before .before .before .before .before .before .before .before .before .before .args .a) (c .before .before .before .before .before .before .before .before .before .before .args .taken) (c .before .before .before .before .before .before .before .before .before .before .args .depth) (h .0) (h .1) (h .2) (c .if1 .left)
@@ -53,16 +22,16 @@ pub take-in-spec : {M : Type 1} → statement M
 take-in-spec =
     tie.close
     (tie.spec
-    reduce-requires
-    enum-known-e
-    enum-known-s
+    (λ c κs. search needs)
+    (λ c. search needs)
+    (λ c. search needs)
     stop-at-requires
-    same-length
+    (λ c. search needs)
     returns
-    mul-stack
-    slice-write-stack
-    add-t20
-    same-length-2
+    (λ c. search needs)
+    (λ c. search needs)
+    (λ c. search needs)
+    (λ c. search needs)
     returns-2
-    same-length-3
+    (λ c. search needs)
     returns-3)

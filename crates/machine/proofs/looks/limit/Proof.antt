@@ -3,23 +3,6 @@ use Rattle.machine.specs.ReducingLaws.{limited-spinning, limited-deep, l
 use borrow.Author.Needs.{needs}
 use Rattle.machine.proofs.looks.limit.Statement.{statement}
 use Rattle.machine.proofs.looks.limit.Tie as tie
-use Rattle.machine.proofs.looks.limit.Reads as reads
-use Rattle.machine.proofs.looks.limit.Lts as lts
-
-enum-told : tie.Need-enum-told
-enum-told c = search needs
-
-enum-told-2 : tie.Need-enum-told-2
-enum-told-2 c = search needs
-
-enum-told-3 : tie.Need-enum-told-3
-enum-told-3 c = search needs
-
-enum-known-seen : tie.Need-enum-known-seen
-enum-known-seen c = search needs
-
-enum-known-seen-2 : tie.Need-enum-known-seen-2
-enum-known-seen-2 c = search needs
 
 returns : tie.Need-returns
 returns c = rw (c .before .before .seen2 .given .1) (limited-spinning (c .before .before .before .before .args .stop) (c .before .before .before .before .args .left) (c .before .before .seen2 .given .0 .0) (c .before .before .seen2 .given .0 .1 .0) (c .if1 .taken))
@@ -46,11 +29,11 @@ pub limit-spec : {M : Type 1} → statement M
 limit-spec =
     tie.close
     (tie.spec
-    enum-told
-    enum-told-2
-    enum-told-3
-    enum-known-seen
-    enum-known-seen-2
+    (λ c. search needs)
+    (λ c. search needs)
+    (λ c. search needs)
+    (λ c. search needs)
+    (λ c. search needs)
     returns
     returns-2
     returns-3

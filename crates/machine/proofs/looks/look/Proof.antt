@@ -7,40 +7,12 @@ use Rattle.machine.specs.StackLaws.{look-next, reduce-below, shift-below
 use borrow.Author.Needs.{needs}
 use Rattle.machine.proofs.looks.look.Statement.{statement}
 use Rattle.machine.proofs.looks.look.Tie as tie
-use Rattle.machine.proofs.looks.look.Reads as reads
-use Rattle.machine.proofs.looks.look.Lts as lts
-use Rattle.book.proofs.action_at.Reads as action-at-reads
-use Rattle.machine.proofs.looks.reduction.Reads as reduction-reads
-
-sub-top : tie.Need-sub-top
-sub-top c = search needs
-
-mul-top : tie.Need-mul-top
-mul-top c = search needs
-
-shared-slice-read-top : tie.Need-shared-slice-read-top
-shared-slice-read-top c = search needs
 
 cast-top : tie.Need-cast-top
 cast-top c = omega (arith, c .before .before .before .pre .1 .0 .states ((c .before .before .before .args .depth) - 1) (omega arith), c .before .before .before .pre .0 .small .states)
 
 action-at-requires : tie.Need-action-at-requires
 action-at-requires c κs = (c .before .before .before .pre .0, (c .before .before .before .pre .1 .0 .states ((c .before .before .before .args .depth) - 1) (omega arith), c .before .before .before .pre .1 .1))
-
-enum-told : tie.Need-enum-told
-enum-told c = search needs
-
-enum-told-2 : tie.Need-enum-told-2
-enum-told-2 c = search needs
-
-enum-known-s : tie.Need-enum-known-s
-enum-known-s c = search needs
-
-enum-known-p : tie.Need-enum-known-p
-enum-known-p c = search needs
-
-cast-reduction : tie.Need-cast-reduction
-cast-reduction c = search needs
 
 reduction-requires : tie.Need-reduction-requires
 reduction-requires c κs = (c .before .before .before .before .before .before .before .pre .0, (c .before .before .before .before .before .before .before .pre .1 .0, reduce-below (c .before .before .before .before .before .before .before .pre .0) _ _ _ (sym (c .before .before .before .action-at .ensures) ∙ c .before .p .given .1)))
@@ -63,16 +35,16 @@ pub look-spec : {M : Type 1} → statement M
 look-spec =
     tie.close
     (tie.spec
-    sub-top
-    mul-top
-    shared-slice-read-top
+    (λ c. search needs)
+    (λ c. search needs)
+    (λ c. search needs)
     cast-top
     action-at-requires
-    enum-told
-    enum-told-2
-    enum-known-s
-    enum-known-p
-    cast-reduction
+    (λ c. search needs)
+    (λ c. search needs)
+    (λ c. search needs)
+    (λ c. search needs)
+    (λ c. search needs)
     reduction-requires
     returns
     returns-2

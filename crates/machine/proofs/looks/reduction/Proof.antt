@@ -7,38 +7,9 @@ use Rattle.machine.specs.StackLaws.{goto-below, left-below, lands-short,
 use borrow.Author.Needs.{needs}
 use Rattle.machine.proofs.looks.reduction.Statement.{statement}
 use Rattle.machine.proofs.looks.reduction.Tie as tie
-use Rattle.machine.proofs.looks.reduction.Reads as reads
-use Rattle.machine.proofs.looks.reduction.Lts as lts
-use Rattle.book.proofs.goto_at.Reads as goto-at-reads
-use Rattle.book.proofs.left_side.Reads as left-side-reads
-use Rattle.book.proofs.production_length.Reads as production-length-reads
-
-production-length-requires : tie.Need-production-length-requires
-production-length-requires c κs = search needs
-
-cast-n : tie.Need-cast-n
-cast-n c = search needs
 
 returns : tie.Need-returns
 returns c = lands-short (tablesOf (c .before .before .before .before .args .cells .now)) (c .before .before .before .before .args .stack .now) (c .before .before .before .before .args .depth) _ ((tablesOf (c .before .before .before .before .args .cells .now)) .len (c .before .before .before .before .args .p)) (omega (arith, c .if1 .taken, c .before .production-length .ensures))
-
-sub-m : tie.Need-sub-m
-sub-m c = search needs
-
-left-side-requires : tie.Need-left-side-requires
-left-side-requires c κs = search needs
-
-cast-x : tie.Need-cast-x
-cast-x c = search needs
-
-sub-goto-at : tie.Need-sub-goto-at
-sub-goto-at c = search needs
-
-mul-goto-at : tie.Need-mul-goto-at
-mul-goto-at c = search needs
-
-shared-slice-read-goto-at : tie.Need-shared-slice-read-goto-at
-shared-slice-read-goto-at c = search needs
 
 cast-goto-at : tie.Need-cast-goto-at
 cast-goto-at c = omega (arith, c .before .before .before .before .before .before .pre .1 .0 .states ((c .before .before .before .before .before .before .args .depth) - c .before .before .before .production-length .result - 1) (omega arith), c .before .before .before .before .before .before .pre .0 .small .states)
@@ -48,9 +19,6 @@ goto-at-requires c κs = (c .before .before .before .before .before .before .pre
 
 returns-2 : tie.Need-returns-2
 returns-2 c = lands-none (tablesOf (c .before .before .before .before .before .before .before .before .args .cells .now)) (c .before .before .before .before .before .before .before .before .args .stack .now) (c .before .before .before .before .before .before .before .before .args .depth) ((tablesOf (c .before .before .before .before .before .before .before .before .args .cells .now)) .lhs (c .before .before .before .before .before .before .before .before .args .p)) ((tablesOf (c .before .before .before .before .before .before .before .before .args .cells .now)) .len (c .before .before .before .before .before .before .before .before .args .p)) (omega (arith, c .before .before .before .before .if1 .left, c .before .before .before .before .before .production-length .ensures)) (sym (rw (c .before .before .before .left-side .ensures, c .before .before .before .before .before .production-length .ensures) at (c .before .goto-at .ensures)) ∙ c .if2 .taken)
-
-sub-t10 : tie.Need-sub-t10
-sub-t10 c = search needs
 
 returns-3 : tie.Need-returns-3
 returns-3 c =
@@ -62,17 +30,17 @@ pub reduction-spec : {M : Type 1} → statement M
 reduction-spec =
     tie.close
     (tie.spec
-    production-length-requires
-    cast-n
+    (λ c κs. search needs)
+    (λ c. search needs)
     returns
-    sub-m
-    left-side-requires
-    cast-x
-    sub-goto-at
-    mul-goto-at
-    shared-slice-read-goto-at
+    (λ c. search needs)
+    (λ c κs. search needs)
+    (λ c. search needs)
+    (λ c. search needs)
+    (λ c. search needs)
+    (λ c. search needs)
     cast-goto-at
     goto-at-requires
     returns-2
-    sub-t10
+    (λ c. search needs)
     returns-3)

@@ -3,8 +3,6 @@ use Rattle.machine.specs.StackLaws.{stack-top}
 use borrow.Author.Needs.{needs}
 use Rattle.machine.proofs.looks.stop_at.Statement.{statement}
 use Rattle.machine.proofs.looks.stop_at.Tie as tie
-use Rattle.machine.proofs.looks.stop_at.Reads as reads
-use Rattle.machine.proofs.looks.stop_at.Lts as lts
 
 sub-t5 : tie.Need-sub-t5
 sub-t5 c = search needs

@@ -4,11 +4,6 @@ use Rattle.machine.specs.ReducingLaws.{turn-limited}
 use borrow.Author.Needs.{needs}
 use Rattle.machine.proofs.looks.turn.Statement.{statement}
 use Rattle.machine.proofs.looks.turn.Tie as tie
-use Rattle.machine.proofs.looks.turn.Reads as reads
-use Rattle.machine.proofs.looks.turn.Lts as lts
-use Rattle.machine.proofs.looks.limit.Reads as limit-reads
-use Rattle.machine.proofs.looks.look.Reads as look-reads
-use Rattle.machine.proofs.looks.stop_at.Reads as stop-at-reads
 
 stop-at-requires : tie.Need-stop-at-requires
 stop-at-requires c κs = search needs

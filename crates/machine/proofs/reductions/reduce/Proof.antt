@@ -10,9 +10,6 @@ use Rattle.machine.specs.ReducingLaws.{Reducing, reducing-none, reducing
 use borrow.Author.Needs.{needs}
 use Rattle.machine.proofs.reductions.reduce.Statement.{statement}
 use Rattle.machine.proofs.reductions.reduce.Tie as tie
-use Rattle.machine.proofs.reductions.reduce.Reads as reads
-use Rattle.machine.proofs.reductions.reduce.Lts as lts
-use Rattle.machine.proofs.looks.turn.Reads as turn-reads
 
 abbrev Inv-loop : tie.InvT-loop
 Inv-loop cells d stack₀ depth a taken n₀ left₀ stack n left = (left ≤ 4096) × (length stack ≡ length stack₀) × Reducing (tablesOf cells) (d .s) a taken stack₀ (reducing (tablesOf cells) a taken 4096 (stackOf stack₀ depth)) stack n left
@@ -26,26 +23,17 @@ loop-holds c = (omega arith, search needs, reducing-none (c .before .before .pre
 turn-requires : tie.Need-turn-requires Inv-loop μ-loop
 turn-requires c κs = (c .before .before .before .before .pre .0, (c .before .loop .inv .2 .settled .stacked, c .before .before .before .before .pre .1 .1))
 
-enum-known-e : tie.Need-enum-known-e Inv-loop μ-loop
-enum-known-e c = search needs
-
 same-length : tie.Need-same-length Inv-loop μ-loop
 same-length c = c .before .before .before .before .before .loop .inv .1
 
 returns : tie.Need-returns Inv-loop μ-loop
 returns c = reducing-ended (c .before .before .before .before .before .loop .inv .2) (rw (c .before .e .given .1) at (c .before .before .before .turn .ensures))
 
-enum-known-s : tie.Need-enum-known-s Inv-loop μ-loop
-enum-known-s c = search needs
-
 same-length-2 : tie.Need-same-length-2 Inv-loop μ-loop
 same-length-2 c = c .before .before .before .before .before .loop .inv .1
 
 returns-2 : tie.Need-returns-2 Inv-loop μ-loop
 returns-2 c = reducing-shift (c .before .before .before .before .before .loop .inv .2) (rw (c .before .s .given .1) at (c .before .before .before .turn .ensures))
-
-enum-known-m : tie.Need-enum-known-m Inv-loop μ-loop
-enum-known-m c = search needs
 
 mul-stack : tie.Need-mul-stack Inv-loop μ-loop
 mul-stack c = let t = rw (c .before .m .given .1) at (c .before .before .before .turn .ensures) in omega (arith, t .3)
@@ -73,13 +61,13 @@ reduce-spec =
     μ-loop
     loop-holds
     turn-requires
-    enum-known-e
+    (λ c. search needs)
     same-length
     returns
-    enum-known-s
+    (λ c. search needs)
     same-length-2
     returns-2
-    enum-known-m
+    (λ c. search needs)
     mul-stack
     slice-write-stack
     add-n

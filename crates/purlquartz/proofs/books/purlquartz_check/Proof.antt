@@ -2,10 +2,6 @@
 use borrow.Author.Needs.{needs}
 use Rattle.purlquartz.proofs.books.purlquartz_check.Statement.{statement}
 use Rattle.purlquartz.proofs.books.purlquartz_check.Tie as tie
-use Rattle.purlquartz.proofs.books.purlquartz_check.Reads as reads
-use Rattle.purlquartz.proofs.books.purlquartz_check.Lts as lts
-use Rattle.book.proofs.check.Reads as check-reads
-use Rattle.purlquartz.proofs.told.tell_checked.Reads as tell-checked-reads
 
 check-requires : tie.Need-check-requires
 check-requires c κs = search needs

@@ -3,10 +3,6 @@ use mathlib.Core.Path.{refl}
 use borrow.Author.Needs.{needs}
 use Rattle.purlquartz.proofs.books.purlquartz_read.Statement.{statement}
 use Rattle.purlquartz.proofs.books.purlquartz_read.Tie as tie
-use Rattle.purlquartz.proofs.books.purlquartz_read.Reads as reads
-use Rattle.purlquartz.proofs.books.purlquartz_read.Lts as lts
-use Rattle.book.proofs.read.Reads as read-reads
-use Rattle.purlquartz.proofs.told.tell_written.Reads as tell-written-reads
 
 read-requires : tie.Need-read-requires
 read-requires c κs = search needs

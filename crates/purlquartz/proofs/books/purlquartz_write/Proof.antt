@@ -3,10 +3,6 @@ use mathlib.Core.Path.{refl}
 use borrow.Author.Needs.{needs}
 use Rattle.purlquartz.proofs.books.purlquartz_write.Statement.{statement}
 use Rattle.purlquartz.proofs.books.purlquartz_write.Tie as tie
-use Rattle.purlquartz.proofs.books.purlquartz_write.Reads as reads
-use Rattle.purlquartz.proofs.books.purlquartz_write.Lts as lts
-use Rattle.book.proofs.write.Reads as write-reads
-use Rattle.purlquartz.proofs.told.tell_written.Reads as tell-written-reads
 
 write-requires : tie.Need-write-requires
 write-requires c κs = search needs

@@ -2,10 +2,6 @@
 use borrow.Author.Needs.{needs}
 use Rattle.purlquartz.proofs.entries.purlquartz_check_list.Statement.{statement}
 use Rattle.purlquartz.proofs.entries.purlquartz_check_list.Tie as tie
-use Rattle.purlquartz.proofs.entries.purlquartz_check_list.Reads as reads
-use Rattle.purlquartz.proofs.entries.purlquartz_check_list.Lts as lts
-use Rattle.lists.proofs.check_list.Reads as check-list-reads
-use Rattle.purlquartz.proofs.told.tell_listed.Reads as tell-listed-reads
 
 check-list-requires : tie.Need-check-list-requires
 check-list-requires c κs = search needs

@@ -2,10 +2,6 @@
 use borrow.Author.Needs.{needs}
 use Rattle.purlquartz.proofs.entries.purlquartz_entry.Statement.{statement}
 use Rattle.purlquartz.proofs.entries.purlquartz_entry.Tie as tie
-use Rattle.purlquartz.proofs.entries.purlquartz_entry.Reads as reads
-use Rattle.purlquartz.proofs.entries.purlquartz_entry.Lts as lts
-use Rattle.lists.proofs.nth_entry.Reads as nth-entry-reads
-use Rattle.purlquartz.proofs.told.tell_entry.Reads as tell-entry-reads
 
 nth-entry-requires : tie.Need-nth-entry-requires
 nth-entry-requires c κs = search needs

@@ -3,10 +3,6 @@ use mathlib.Core.Path.{refl}
 use borrow.Author.Needs.{needs}
 use Rattle.purlquartz.proofs.runs.purlquartz_run.Statement.{statement}
 use Rattle.purlquartz.proofs.runs.purlquartz_run.Tie as tie
-use Rattle.purlquartz.proofs.runs.purlquartz_run.Reads as reads
-use Rattle.purlquartz.proofs.runs.purlquartz_run.Lts as lts
-use Rattle.machine.proofs.run.Reads as run-reads
-use Rattle.purlquartz.proofs.told.tell_ran.Reads as tell-ran-reads
 
 run-requires : tie.Need-run-requires
 run-requires c κs = search needs

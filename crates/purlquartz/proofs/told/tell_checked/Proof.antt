@@ -3,9 +3,6 @@ use mathlib.Core.Path.{refl}
 use borrow.Author.Needs.{needs}
 use Rattle.purlquartz.proofs.told.tell_checked.Statement.{statement}
 use Rattle.purlquartz.proofs.told.tell_checked.Tie as tie
-use Rattle.purlquartz.proofs.told.tell_checked.Reads as reads
-use Rattle.purlquartz.proofs.told.tell_checked.Lts as lts
-use Rattle.purlquartz.proofs.told.tell_refusal.Reads as tell-refusal-reads
 
 enum-known-c : tie.Need-enum-known-c
 enum-known-c c = search needs

@@ -3,9 +3,6 @@ use mathlib.Core.Path.{refl}
 use borrow.Author.Needs.{needs}
 use Rattle.purlquartz.proofs.told.tell_listed.Statement.{statement}
 use Rattle.purlquartz.proofs.told.tell_listed.Tie as tie
-use Rattle.purlquartz.proofs.told.tell_listed.Reads as reads
-use Rattle.purlquartz.proofs.told.tell_listed.Lts as lts
-use Rattle.purlquartz.proofs.told.tell_refusal.Reads as tell-refusal-reads
 
 enum-known-l : tie.Need-enum-known-l
 enum-known-l c = search needs

@@ -3,9 +3,6 @@ use mathlib.Core.Path.{refl}
 use borrow.Author.Needs.{needs}
 use Rattle.purlquartz.proofs.told.tell_written.Statement.{statement}
 use Rattle.purlquartz.proofs.told.tell_written.Tie as tie
-use Rattle.purlquartz.proofs.told.tell_written.Reads as reads
-use Rattle.purlquartz.proofs.told.tell_written.Lts as lts
-use Rattle.purlquartz.proofs.told.tell_refusal.Reads as tell-refusal-reads
 
 enum-known-w : tie.Need-enum-known-w
 enum-known-w c = search needs

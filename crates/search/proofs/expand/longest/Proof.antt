@@ -16,21 +16,6 @@ abbrev μ-loop : tie.MeasureT-loop
 loop-holds : tie.Need-loop-holds Inv-loop μ-loop
 loop-holds c = (omega arith, λ k h. absurd (omega arith))
 
-production-length-requires : tie.Need-production-length-requires Inv-loop μ-loop
-production-length-requires c κs = search needs
-
-cast-larger : tie.Need-cast-larger Inv-loop μ-loop
-cast-larger c = search needs
-
-larger-requires : tie.Need-larger-requires Inv-loop μ-loop
-larger-requires c κs = search needs
-
-add-p : tie.Need-add-p Inv-loop μ-loop
-add-p c = search needs
-
-loop-less : tie.Need-loop-less Inv-loop μ-loop
-loop-less c = search needs
-
 loop-again : tie.Need-loop-again Inv-loop μ-loop
 loop-again c = (omega arith, longest-more (tablesOf (c .before .before .before .before .before .args .cells .now)) _ _ _ _ (c .before .before .before .loop .inv .1) (c .larger .ensures) (c .before .production-length .ensures))
 
@@ -44,10 +29,10 @@ longest-spec =
     Inv-loop
     μ-loop
     loop-holds
-    production-length-requires
-    cast-larger
-    larger-requires
-    add-p
-    loop-less
+    (λ c κs. search needs)
+    (λ c. search needs)
+    (λ c κs. search needs)
+    (λ c. search needs)
+    (λ c. search needs)
     loop-again
     returns)

@@ -8,38 +8,11 @@ use borrow.Author.Needs.{needs}
 use Rattle.search.proofs.expand.lower.Statement.{statement}
 use Rattle.search.proofs.expand.lower.Tie as tie
 
-mul-row : tie.Need-mul-row
-mul-row c = search needs
-
-add-row : tie.Need-add-row
-add-row c = search needs
-
 turn-on-requires : tie.Need-turn-on-requires
 turn-on-requires c κs = (c .before .before .pre .0 .0, c .before .before .pre .1 .0, c .before .before .pre .1 .1)
 
-mul-least : tie.Need-mul-least
-mul-least c = search needs
-
-add-least : tie.Need-add-least
-add-least c = search needs
-
-mul-least-2 : tie.Need-mul-least-2
-mul-least-2 c = search needs
-
 element-copy-out-least : tie.Need-element-copy-out-least
 element-copy-out-least c = omega (arith, c .turn-on .ensures .0 .0)
-
-least-requires : tie.Need-least-requires
-least-requires c κs = search needs
-
-mul-events : tie.Need-mul-events
-mul-events c = search needs
-
-add-events : tie.Need-add-events
-add-events c = search needs
-
-mul-events-2 : tie.Need-mul-events-2
-mul-events-2 c = search needs
 
 element-write-events : tie.Need-element-write-events
 element-write-events c = omega (arith, c .before .before .turn-on .ensures .0 .0)
@@ -51,16 +24,16 @@ pub lower-spec : {M : Type 1} → statement M
 lower-spec =
     tie.close
     (tie.spec
-    mul-row
-    add-row
+    (λ c. search needs)
+    (λ c. search needs)
     turn-on-requires
-    mul-least
-    add-least
-    mul-least-2
+    (λ c. search needs)
+    (λ c. search needs)
+    (λ c. search needs)
     element-copy-out-least
-    least-requires
-    mul-events
-    add-events
-    mul-events-2
+    (λ c κs. search needs)
+    (λ c. search needs)
+    (λ c. search needs)
+    (λ c. search needs)
     element-write-events
     returns)

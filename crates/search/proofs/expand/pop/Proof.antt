@@ -6,29 +6,8 @@ use borrow.Author.Needs.{needs}
 use Rattle.search.proofs.expand.pop.Statement.{statement}
 use Rattle.search.proofs.expand.pop.Tie as tie
 
-production-length-requires : tie.Need-production-length-requires
-production-length-requires c κs = search needs
-
-cast-n : tie.Need-cast-n
-cast-n c = search needs
-
 returns : tie.Need-returns
 returns c = (c .before .before .before .pre .1 .1, step-short (tablesOf (c .before .before .before .args .cells .now)) (c .before .before .before .args .at) (c .before .before .before .args .m) (c .before .before .before .args .p) (c .before .before .before .args .c) (c .before .before .before .args .w) (omega (arith, c .if1 .taken, c .before .production-length .ensures)))
-
-left-side-requires : tie.Need-left-side-requires
-left-side-requires c κs = search needs
-
-cast-x : tie.Need-cast-x
-cast-x c = search needs
-
-sub-lower : tie.Need-sub-lower
-sub-lower c = search needs
-
-sub-lower-2 : tie.Need-sub-lower-2
-sub-lower-2 c = search needs
-
-add-lower : tie.Need-add-lower
-add-lower c = search needs
 
 lower-requires : tie.Need-lower-requires
 lower-requires c κs = ((omega arith, omega (arith, c .before .before .left-side .ensures, left-below (c .before .before .before .before .before .before .pre .0) (c .before .before .before .before .before .before .args .p) (c .before .before .before .before .before .before .pre .1 .0 .0)), omega (arith, c .before .before .before .before .before .before .pre .1 .0 .1, c .before .before .before .before .before .before .pre .0 .small .terminals)), c .before .before .before .before .before .before .pre .1 .1)
@@ -40,13 +19,13 @@ pub pop-spec : {M : Type 1} → statement M
 pop-spec =
     tie.close
     (tie.spec
-    production-length-requires
-    cast-n
+    (λ c κs. search needs)
+    (λ c. search needs)
     returns
-    left-side-requires
-    cast-x
-    sub-lower
-    sub-lower-2
-    add-lower
+    (λ c κs. search needs)
+    (λ c. search needs)
+    (λ c. search needs)
+    (λ c. search needs)
+    (λ c. search needs)
     lower-requires
     returns-2)

@@ -10,26 +10,8 @@ use Rattle.search.proofs.expand.pop_at.Tie as tie
 returns : tie.Need-returns
 returns c = (c .before .before .pre .1 .1, step-beyond (tablesOf (c .before .before .args .cells .now)) (c .before .before .args .at) (c .before .before .args .m) (c .before .before .args .r) (c .before .before .args .q) (c .before .before .args .c) (c .before .before .args .w) (c .if1 .taken))
 
-action-at-requires : tie.Need-action-at-requires
-action-at-requires c κs = search needs
-
-enum-known-p : tie.Need-enum-known-p
-enum-known-p c = search needs
-
-cast-pop : tie.Need-cast-pop
-cast-pop c = search needs
-
 pop-requires : tie.Need-pop-requires
 pop-requires c κs = (c .before .before .before .before .before .before .before .before .pre .0, ((reduce-below _ _ (c .before .before .before .before .before .before .before .before .pre .0) (sym (c .before .before .before .before .before .action-at .ensures) ∙ c .before .before .before .p .given .1), c .before .before .before .before .before .before .before .before .pre .1 .0 .1, c .before .before .before .before .before .before .before .before .pre .1 .0 .2), c .before .before .before .before .before .before .before .before .pre .1 .1))
-
-enum-told : tie.Need-enum-told
-enum-told c = search needs
-
-enum-told-2 : tie.Need-enum-told-2
-enum-told-2 c = search needs
-
-enum-told-3 : tie.Need-enum-told-3
-enum-told-3 c = search needs
 
 returns-2 : tie.Need-returns-2
 returns-2 c = (c .pop .ensures .0, step-reduce (tablesOf (c .before .before .before .before .before .before .before .before .before .args .cells .now)) (c .before .before .before .before .before .before .before .before .before .args .at) (c .before .before .before .before .before .before .before .before .before .args .m) (c .before .before .before .before .before .before .before .before .before .args .r) (c .before .before .before .before .before .before .before .before .before .args .q) (c .before .before .before .before .before .before .before .before .before .args .c) (c .before .before .before .before .before .before .before .before .before .args .w) (c .before .before .before .before .before .before .before .if1 .left) (sym (c .before .before .before .before .before .before .action-at .ensures) ∙ c .before .before .before .before .p .given .1) (c .pop .ensures .1))
@@ -48,13 +30,13 @@ pop-at-spec =
     tie.close
     (tie.spec
     returns
-    action-at-requires
-    enum-known-p
-    cast-pop
+    (λ c κs. search needs)
+    (λ c. search needs)
+    (λ c. search needs)
     pop-requires
-    enum-told
-    enum-told-2
-    enum-told-3
+    (λ c. search needs)
+    (λ c. search needs)
+    (λ c. search needs)
     returns-2
     returns-3
     returns-4

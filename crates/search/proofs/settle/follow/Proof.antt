@@ -13,41 +13,11 @@ use Rattle.search.proofs.settle.follow.Tie as tie
 waiting-at-requires : tie.Need-waiting-at-requires
 waiting-at-requires c κs = (c .before .before .before .before .pre .1 .0 .1, omega (arith, c .before .before .before .before .pre .1 .0 .3, c .before .before .before .before .pre .0 .small .nonterminals))
 
-mul-done : tie.Need-mul-done
-mul-done c = search needs
-
-element-write-done : tie.Need-element-write-done
-element-write-done c = search needs
-
-goto-at-requires : tie.Need-goto-at-requires
-goto-at-requires c κs = search needs
-
 returns : tie.Need-returns
 returns c = ((c .before .before .before .before .before .before .before .pre .1 .1 .1 .1 .1 .0, c .before .before .before .before .before .before .before .pre .1 .1 .1 .1 .1 .1, simp length-set (c .before .before .before .before .before .before .before .pre .1 .1 .1 .1 .1 .2)), rw (c .before .before .waiting-at .ensures) (absent (sym (c .before .goto-at .ensures) ∙ c .if1 .taken)))
 
-sub-g : tie.Need-sub-g
-sub-g c = search needs
-
-cast-g : tie.Need-cast-g
-cast-g c = search needs
-
-mul-add : tie.Need-mul-add
-mul-add c = search needs
-
-add-add : tie.Need-add-add
-add-add c = search needs
-
-mul-add-2 : tie.Need-mul-add-2
-mul-add-2 c = search needs
-
 element-copy-out-add : tie.Need-element-copy-out-add
 element-copy-out-add c = omega (arith, c .if1 .left, c .before .goto-at .ensures, goto-least (c .before .before .before .before .before .before .before .pre .0) (c .before .before .before .before .before .before .before .args .q) (c .before .before .before .before .before .before .before .args .i / 32) (c .before .before .before .before .before .before .before .pre .1 .0 .0) (omega (arith, c .before .before .before .before .before .before .before .pre .1 .0 .3)), c .before .before .before .before .before .before .before .pre .0 .small .states)
-
-add-requires : tie.Need-add-requires
-add-requires c κs = search needs
-
-cast-result : tie.Need-cast-result
-cast-result c = search needs
 
 returns-2 : tie.Need-returns-2
 unfolding entryIn
@@ -65,18 +35,18 @@ follow-spec =
     tie.close
     (tie.spec
     waiting-at-requires
-    mul-done
-    element-write-done
-    goto-at-requires
+    (λ c. search needs)
+    (λ c. search needs)
+    (λ c κs. search needs)
     returns
-    sub-g
-    cast-g
-    mul-add
-    add-add
-    mul-add-2
+    (λ c. search needs)
+    (λ c. search needs)
+    (λ c. search needs)
+    (λ c. search needs)
+    (λ c. search needs)
     element-copy-out-add
-    add-requires
-    cast-result
+    (λ c κs. search needs)
+    (λ c. search needs)
     returns-2
     expand-requires
     returns-3)
