@@ -59,14 +59,19 @@ fn compare(
         &mut sizes,
     );
     let mut all = verdicts::begin(s, t, least);
-    verdicts::by_sentences(&map, least, tried, &mut all);
-    verdicts::by_sentences(&lengths, least, tried, &mut all);
-    verdicts::by_distances(&map, dist, &mut all);
-    verdicts::by_distances(&lengths, dist, &mut all);
-    verdicts::by_sets(&masks, dist, &mut all);
+    verdicts::by_pairs(
+        tables,
+        tried,
+        least,
+        words,
+        dist,
+        &map,
+        &lengths,
+        &theirs,
+        &masks,
+        &mut all,
+    );
     verdicts::by_sizes(&sizes, dist, &mut all);
-    verdicts::by_symbols(least, words, &theirs, &mut all);
-    verdicts::by_runs(tables, &lengths, &theirs, &mut all);
     all
 }
 

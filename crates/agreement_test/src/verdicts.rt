@@ -67,31 +67,10 @@ fn fits(cells: &[u16; 256], least: &[u16; 256], k: usize, tried: usize) -> bool
     cells[k] == least[k]
 }
 
-pub fn by_sentences(
-    cells: &[u16; 256],
-    least: &[u16; 256],
-    tried: usize,
-    verdicts: &mut [u8; 256],
-) {
-    let mut k: usize = 0;
-    while k < 256 {
-        judge(verdicts, k, fits(cells, least, k, tried));
-        k += 1;
-    }
-}
-
 fn equal(cells: &[u16; 256], dist: &[u16; 256], k: usize) -> bool
     requires { ⌜ k < 256 ⌝ }
 {
     cells[k] == dist[k]
-}
-
-pub fn by_distances(cells: &[u16; 256], dist: &[u16; 256], verdicts: &mut [u8; 256]) {
-    let mut k: usize = 0;
-    while k < 256 {
-        judge(verdicts, k, equal(cells, dist, k));
-        k += 1;
-    }
 }
 
 // Whether the bit of pair k says if it is reached.
@@ -100,14 +79,6 @@ fn told(masks: &[u32; 128], dist: &[u16; 256], k: usize) -> bool
 {
     let bit = (masks[k / 8] >> (k % 8)) % 2 == 1;
     bit == (dist[k] < UNREACHED)
-}
-
-pub fn by_sets(masks: &[u32; 128], dist: &[u16; 256], verdicts: &mut [u8; 256]) {
-    let mut k: usize = 0;
-    while k < 256 {
-        judge(verdicts, k, told(masks, dist, k));
-        k += 1;
-    }
 }
 
 fn same_symbol(a: &[u8; 262144], b: &[u8; 262144], at: usize) -> bool
@@ -143,23 +114,6 @@ fn length_at(least: &[u16; 256], k: usize) -> usize
     n
 }
 
-pub fn by_symbols(
-    least: &[u16; 256],
-    words: &[u8; 262144],
-    theirs: &[u8; 262144],
-    verdicts: &mut [u8; 256],
-) {
-    let mut k: usize = 0;
-    while k < 256 {
-        judge(
-            verdicts,
-            k,
-            same_symbols(words, theirs, k, length_at(least, k)),
-        );
-        k += 1;
-    }
-}
-
 // Whether the n symbols from a place on reach pair k.
 fn reaches(tables: &[u16; 768], k: usize, words: &[u8], start: usize, n: usize) -> bool
     requires { ⌜ (k < 256) × (start ≤ 261120) × (n ≤ 1000) ⌝ }
@@ -184,15 +138,72 @@ fn sound(tables: &[u16; 768], lengths: &[u16; 256], theirs: &[u8; 262144], k: us
     reaches(tables, k, theirs, k * 1024, n)
 }
 
-pub fn by_runs(
+// Whether the library says of pair k, by the map, by find and by the sets, what the second finder says.
+fn agrees(
     tables: &[u16; 768],
+    tried: usize,
+    least: &[u16; 256],
+    words: &[u8; 262144],
+    dist: &[u16; 256],
+    map: &[u16; 256],
     lengths: &[u16; 256],
     theirs: &[u8; 262144],
+    masks: &[u32; 128],
+    k: usize,
+) -> bool
+    requires { ⌜ k < 256 ⌝ }
+{
+    if !fits(map, least, k, tried) {
+        return false;
+    }
+    if !fits(lengths, least, k, tried) {
+        return false;
+    }
+    if !equal(map, dist, k) {
+        return false;
+    }
+    if !equal(lengths, dist, k) {
+        return false;
+    }
+    if !told(masks, dist, k) {
+        return false;
+    }
+    if !same_symbols(words, theirs, k, length_at(least, k)) {
+        return false;
+    }
+    sound(tables, lengths, theirs, k)
+}
+
+pub fn by_pairs(
+    tables: &[u16; 768],
+    tried: usize,
+    least: &[u16; 256],
+    words: &[u8; 262144],
+    dist: &[u16; 256],
+    map: &[u16; 256],
+    lengths: &[u16; 256],
+    theirs: &[u8; 262144],
+    masks: &[u32; 128],
     verdicts: &mut [u8; 256],
 ) {
     let mut k: usize = 0;
     while k < 256 {
-        judge(verdicts, k, sound(tables, lengths, theirs, k));
+        judge(
+            verdicts,
+            k,
+            agrees(
+                tables,
+                tried,
+                least,
+                words,
+                dist,
+                map,
+                lengths,
+                theirs,
+                masks,
+                k,
+            ),
+        );
         k += 1;
     }
 }
