@@ -12,12 +12,11 @@ use Rattle.book.specs.Tables.{Tables, tablesOf}
 use Rattle.book.specs.TablesLaws.{Holds, InRange, in-range}
 use Rattle.book.specs.declared.Sizes.{Sizes}
 use Rattle.machine.specs.Machine.{Reaches}
-use Rattle.machine.specs.Run.{runs, sound, delivered}
+use Rattle.machine.specs.Run.{runs, soundPrefix}
 use Rattle.machine.specs.RunLaws.{sound-terminals, run-error}
+use Rattle.machine.specs.Stack.{RanTo}
 use Rattle.machine.specs.declared.Ending.{Ending}
 use Rattle.machine.specs.declared.Ending.the-variants.{Accepted, Error, Broken, Passed, Deep, Spinning}
-use Rattle.machine.specs.declared.Ran.{Ran}
-use Rattle.machine.specs.declared.Ran.the-variants.{Ended}
 use Rattle.walk.specs.Walk.{Walk, here, shifted, crossed}
 use Rattle.walk.specs.WalkLaws.{reaches-walk}
 use Rattle.layers.specs.CrossingLaws.{terminals-are, states-are}
@@ -29,7 +28,7 @@ use Rattle.judgement.specs.Turns.{weighed}
 use Rattle.judgement.specs.declared.Verdict.{Verdict}
 
 -- ---- the sentence
-sound-all : (t : ℕ) (w : List ℕ) → ((i : ℕ) → i < length w → (1 ≤ getD w i 0) × (getD w i 0 < t)) → sound t w ≡ length w
+sound-all : (t : ℕ) (w : List ℕ) → ((i : ℕ) → i < length w → (1 ≤ getD w i 0) × (getD w i 0 < t)) → soundPrefix t w ≡ length w
 sound-all t [] f = refl
 sound-all t (a ∷ w) f =
     let (some, below) = f 0 (omega arith) in
@@ -39,7 +38,7 @@ module _ {t : ℕ} {bytes : List ℕ} {e : Entry} (s : Spelled t bytes e) where
   pub spelled-length : length (sentence bytes e) ≡ e .len
   spelled-length = rw (length-take, length-drop) (omega (arith, s .within))
 
-  pub spelled-sound : sound t (sentence bytes e) ≡ length (sentence bytes e)
+  pub spelled-sound : soundPrefix t (sentence bytes e) ≡ length (sentence bytes e)
   spelled-sound = sound-all t (sentence bytes e) (λ i h. s .symbol i (rw spelled-length at h))
 
 -- ---- the state in which a right entry's run ends
@@ -55,7 +54,7 @@ right-state : {d : Sizes} {cells bytes : List ℕ} {e : Entry} → Holds d cells
     → isRight (length (sentence bytes e)) (runOf (tablesOf cells) bytes e) ≡ true → stateOf (runOf (tablesOf cells) bytes e) < d .s
 right-state {d} {cells} {bytes} {e} h s r = by-ending (runOf (tablesOf cells) bytes e) refl r
   where
-    terminals : sound (tablesOf cells .terminals) (sentence bytes e) ≡ length (sentence bytes e)
+    terminals : soundPrefix (tablesOf cells .terminals) (sentence bytes e) ≡ length (sentence bytes e)
     terminals = rw (terminals-are h) (spelled-sound s)
 
     by-ending : (x : Ending) → runOf (tablesOf cells) bytes e ≡ x → isRight (length (sentence bytes e)) x ≡ true → stateOf x < d .s
@@ -73,13 +72,10 @@ pub entry-right : {d : Sizes} {cells bytes : List ℕ} {e : Entry} → Holds d c
     → isRight (length (sentence bytes e)) (runOf (tablesOf cells) bytes e) ≡ true → stateOf (runOf (tablesOf cells) bytes e) < 128
 entry-right h s r = omega (arith, right-state h s r, h .small .states)
 
--- ---- what a run answers and leaves
-delivered-ending : {r : Ending} {out : List ℕ} (lent : List ℕ) (o : Ending × List ℕ) → (Ended r, out) ≡ delivered lent o → r ≡ o .0
-delivered-ending {r} lent o e = let f : Ended r ≡ Ended (o .0) = ap (λ (x : Ran × List ℕ). x .0) e in cc
-
-delivered-rest : {r : Ending} {out : List ℕ} (lent : List ℕ) (o : Ending × List ℕ) → (Ended r, out) ≡ delivered lent o → length out ≡ length lent → 1024 ≤ length lent
+-- ---- what a run leaves
+ran-after : {r : Ending} {out : List ℕ} (lent : List ℕ) (o : Ending × List ℕ) → RanTo o lent r out → length out ≡ length lent → 1024 ≤ length lent
     → drop 1024 out ≡ drop 1024 lent
-delivered-rest {r} {out} lent (e, st) f same room = go (decLe (length st) 1024)
+ran-after {r} {out} lent (e, st) f same room = go (decLe (length st) 1024)
   where
     front : List ℕ
     front = reverse st ++ replicate (1024 - length st) 0
@@ -88,7 +84,7 @@ delivered-rest {r} {out} lent (e, st) f same room = go (decLe (length st) 1024)
     front-length = simp (length-append, length-reverse, length-replicate)
 
     is : out ≡ front ++ drop 1024 lent
-    is = ap (λ (x : Ran × List ℕ). x .1) f
+    is = f .1
 
     size : length out ≡ length front + (length lent - 1024)
     size = rw is (simp (length-append, length-drop))
@@ -99,12 +95,12 @@ delivered-rest {r} {out} lent (e, st) f same room = go (decLe (length st) 1024)
 
 -- ---- the run of an entry, whose symbols stand in the list from its start up to its end
 module _ {d : Sizes} {cells bytes : List ℕ} {e : Entry} (lent : List ℕ) (h : Holds d cells) (s : Spelled (d .t) bytes e) {x : Ending} {out : List ℕ}
-    (f : (Ended x, out) ≡ delivered lent (runs (tablesOf cells) (e .lookahead) (take (e .start + e .len - e .start) (drop (e .start) bytes)) 0 (0 ∷ []))) where
-  ran : (Ended x, out) ≡ delivered lent (runs (tablesOf cells) (e .lookahead) (sentence bytes e) 0 (0 ∷ []))
+    (f : RanTo (runs (tablesOf cells) (e .lookahead) (take (e .start + e .len - e .start) (drop (e .start) bytes)) 0 (0 ∷ [])) lent x out) where
+  ran : RanTo (runs (tablesOf cells) (e .lookahead) (sentence bytes e) 0 (0 ∷ [])) lent x out
   ran = let size : e .start + e .len - e .start ≡ e .len = omega arith in rw size at f
 
   ending : x ≡ runOf (tablesOf cells) bytes e
-  ending = delivered-ending lent (runs (tablesOf cells) (e .lookahead) (sentence bytes e) 0 (0 ∷ [])) ran
+  ending = ran .0
 
   pub ran-right : isRight (e .len) x ≡ true → stateOf x < 128
   ran-right r =
@@ -116,4 +112,4 @@ module _ {d : Sizes} {cells bytes : List ℕ} {e : Entry} (lent : List ℕ) (h :
   ran-verdict i flags v w = w ∙ ap₂ (λ (n : ℕ) (y : Ending). weighed i n flags y) (sym (spelled-length s)) ending
 
   pub ran-rest : length out ≡ length lent → 1024 ≤ length lent → drop 1024 out ≡ drop 1024 lent
-  ran-rest same room = delivered-rest lent (runs (tablesOf cells) (e .lookahead) (sentence bytes e) 0 (0 ∷ [])) ran same room
+  ran-rest same room = ran-after lent (runs (tablesOf cells) (e .lookahead) (sentence bytes e) 0 (0 ∷ [])) ran same room

@@ -11,7 +11,7 @@ use Rattle.book.specs.Tables.{Tables, tablesOf, sizesOf}
 use Rattle.book.specs.declared.Action.the-variants.{Error as Fail}
 use Rattle.book.specs.declared.Sizes.{Sizes}
 use Rattle.machine.specs.Machine.{Reaches}
-use Rattle.machine.specs.Run.{runs}
+use Rattle.machine.specs.Run.{runs, stopOf}
 use Rattle.machine.specs.declared.Ending.{Ending}
 use Rattle.machine.specs.declared.Ending.the-variants.{Accepted, Error, Broken, Passed, Deep, Spinning}
 use Rattle.lists.specs.Entry.{sentence}
@@ -37,12 +37,7 @@ isRight len (Spinning stop) = false
 
 -- the state that a run 'ends in'
 abbrev pub stateOf : Ending → ℕ
-stateOf (Error stop) = stop .state
-stateOf (Accepted stop) = stop .state
-stateOf (Broken stop) = stop .state
-stateOf (Passed stop) = stop .state
-stateOf (Deep stop) = stop .state
-stateOf (Spinning stop) = stop .state
+stateOf e = stopOf e .state
 
 abbrev pub among : ℕ → List ℕ → Bool
 among s [] = false

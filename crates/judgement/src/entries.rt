@@ -18,6 +18,7 @@ use lists::Next;
 use lists::next_at;
 use machine::Ending;
 use machine::drive;
+use machine::stop_of;
 
 // Whether a run ended as error with a whole sentence in, which has as many symbols as len says.
 fn is_right(ending: Ending, len: usize) -> bool
@@ -33,19 +34,6 @@ fn is_right(ending: Ending, len: usize) -> bool
     }
 }
 
-fn state_of(ending: Ending) -> u16
-    ensures { λ r. ⌜ r ≡ stateOf ending ⌝ }
-{
-    match ending {
-        Ending::Error(stop) => stop.state,
-        Ending::Accepted(stop) => stop.state,
-        Ending::Broken(stop) => stop.state,
-        Ending::Passed(stop) => stop.state,
-        Ending::Deep(stop) => stop.state,
-        Ending::Spinning(stop) => stop.state,
-    }
-}
-
 // The verdict on the entry of index i, whose run ended so; the states of the entries before it are flagged.
 fn weigh(ending: Ending, i: usize, len: usize, flags: &[u8; 128]) -> Verdict
     requires { ⌜ (isRight len ending ≡ true → stateOf ending < 128) ⌝ }
@@ -54,7 +42,7 @@ fn weigh(ending: Ending, i: usize, len: usize, flags: &[u8; 128]) -> Verdict
     if !is_right(ending, len) {
         return Verdict::Fault(Judgement::Wrong(i, ending));
     }
-    let s = state_of(ending);
+    let s = stop_of(ending).state;
     if flags[s as usize] != 0 {
         return Verdict::Fault(Judgement::Repeat(i));
     }

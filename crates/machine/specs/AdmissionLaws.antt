@@ -18,43 +18,44 @@ use Rattle.book.specs.declared.Checked.{Checked}
 use Rattle.book.specs.declared.Checked.the-variants.{Valid, Refused as Faulty}
 use Rattle.book.specs.declared.Sizes.{Sizes}
 use Rattle.machine.specs.MachineLaws.{clash}
-use Rattle.machine.specs.Run.{runs, sound, admitted, delivered, running}
-use Rattle.machine.specs.declared.Ran.{Ran}
-use Rattle.machine.specs.declared.Ran.the-variants.{Refused}
+use Rattle.machine.specs.Run.{runs, soundPrefix, runAdmits, running}
+use Rattle.machine.specs.Stack.{RanTo}
+use Rattle.machine.specs.declared.Ending.{Ending}
+use Rattle.machine.specs.declared.Ran.the-variants.{Ended, Refused}
 
 -- ---- the first symbol that is refused
 module _ (t : ℕ) (w : List ℕ) (i : ℕ) where
-  pub sound-more : i < length w → 1 ≤ getD w i 0 → getD w i 0 < t → sound t (drop i w) ≡ suc (sound t (drop (i + 1) w))
+  pub sound-more : i < length w → 1 ≤ getD w i 0 → getD w i 0 < t → soundPrefix t (drop i w) ≡ suc (soundPrefix t (drop (i + 1) w))
   sound-more h l b = rw (add-one, drop-cons w i 0 h, le-leb 1 (getD w i 0) l, lt-ltb (getD w i 0) t b)
 
-  pub sound-zero : i < length w → getD w i 0 ≡ 0 → sound t (drop i w) ≡ 0
+  pub sound-zero : i < length w → getD w i 0 ≡ 0 → soundPrefix t (drop i w) ≡ 0
   sound-zero h l = rw (drop-cons w i 0 h, lt-leb 1 (getD w i 0) (omega arith))
 
-  pub sound-high : i < length w → t ≤ getD w i 0 → sound t (drop i w) ≡ 0
+  pub sound-high : i < length w → t ≤ getD w i 0 → soundPrefix t (drop i w) ≡ 0
   sound-high h b = rw (drop-cons w i 0 h, le-ltb (getD w i 0) t b, and-false)
 
-  pub sound-none : length w ≤ i → sound t (drop i w) ≡ 0
+  pub sound-none : length w ≤ i → soundPrefix t (drop i w) ≡ 0
   sound-none h = rw (drop-of-length-le w h)
 
 -- a sentence with none has terminals only
-pub sound-head : (t a : ℕ) (w : List ℕ) → sound t (a ∷ w) ≡ suc (length w) → (1 ≤ a) × (a < t) × (sound t w ≡ length w)
+pub sound-head : (t a : ℕ) (w : List ℕ) → soundPrefix t (a ∷ w) ≡ suc (length w) → (1 ≤ a) × (a < t) × (soundPrefix t w ≡ length w)
 sound-head t a w e = go (decLe 1 a) (decLt a t)
   where
-    go : Dec (1 ≤ a) → Dec (a < t) → (1 ≤ a) × (a < t) × (sound t w ≡ length w)
+    go : Dec (1 ≤ a) → Dec (a < t) → (1 ≤ a) × (a < t) × (soundPrefix t w ≡ length w)
     go (yes l) (yes b) = (l, b, omega (arith, rw (le-leb 1 a l, lt-ltb a t b) at e))
     go (yes l) (no b) = absurd (omega (arith, rw (le-ltb a t (omega arith), and-false) at e))
     go (no l) b = absurd (omega (arith, rw (lt-leb 1 a (omega arith)) at e))
 
-pub sound-at : (t : ℕ) (w : List ℕ) (i : ℕ) → sound t w ≡ length w → i < length w → getD w i 0 < t
+pub sound-at : (t : ℕ) (w : List ℕ) (i : ℕ) → soundPrefix t w ≡ length w → i < length w → getD w i 0 < t
 sound-at t [] i e h = absurd (not-suc-le-zero h)
 sound-at t (a ∷ w) zero e h = sound-head t a w e .1
 sound-at t (a ∷ w) (suc i) e h = sound-at t w i (sound-head t a w e .2) (omega arith)
 
-sound-most : (t : ℕ) (w : List ℕ) → sound t w ≤ length w
+sound-most : (t : ℕ) (w : List ℕ) → soundPrefix t w ≤ length w
 sound-most t [] = omega arith
 sound-most t (a ∷ w) = go (leb 1 a && ltb a t) (sound-most t w)
   where
-    go : (b : Bool) → sound t w ≤ length w → cond b (suc (sound t w)) 0 ≤ suc (length w)
+    go : (b : Bool) → soundPrefix t w ≤ length w → cond b (suc (soundPrefix t w)) 0 ≤ suc (length w)
     go true h = omega arith
     go false h = omega arith
 
@@ -74,19 +75,19 @@ module _ (a b : ℕ) (r : Refusal) (rest : Checked) {d : Sizes} where
       go (yes h) = (h, rw (lt-leb b a h) at e)
       go (no h) = let f = rw (le-leb b a (omega arith)) at e in absurd (clash cc)
 
-pub record Admitted (w : List ℕ) (z room : ℕ) (found : Checked) (d : Sizes) : Type 0 where
+pub record RunAdmitted (w : List ℕ) (z room : ℕ) (found : Checked) (d : Sizes) : Type 0 where
   pub book : found ≡ Valid d
   pub few : length w ≤ 1000
-  pub terminals : sound (d .t) w ≡ length w
+  pub terminals : soundPrefix (d .t) w ≡ length w
   pub lookahead : z < d .t
   pub enough : 1024 ≤ room
 
-pub admitted-valid : (w : List ℕ) (z room : ℕ) (found : Checked) (d : Sizes) → admitted w z room found ≡ Valid d → Admitted w z room found d
-unfolding admitted
+pub admitted-valid : (w : List ℕ) (z room : ℕ) (found : Checked) (d : Sizes) → runAdmits w z room found ≡ Valid d → RunAdmitted w z room found d
+unfolding runAdmits
 admitted-valid w z room (Faulty r) d e = absurd (clash cc)
 admitted-valid w z room (Valid x) d e =
     let (few, e₁) = past-short 1000 (length w) _ _ e in
-    let (terminals, e₂) = past-short (sound (x .t) w) (length w) _ _ e₁ in
+    let (terminals, e₂) = past-short (soundPrefix (x .t) w) (length w) _ _ e₁ in
     let (lookahead, e₃) = past-beyond z (x .t) _ _ e₂ in
     let (enough, e₄) = past-short room 1024 _ _ e₃ in
     let same : x ≡ d = cc in
@@ -94,11 +95,11 @@ admitted-valid w z room (Valid x) d e =
 
 -- ---- the call
 module _ (cells w : List ℕ) (z : ℕ) (lent : List ℕ) where
-  pub run-refused : (r : Refusal) → admitted w z (length lent) (checked (ofCells cells)) ≡ Faulty r → (Refused r, lent) ≡ running cells w z lent
+  pub run-refused : (r : Refusal) → runAdmits w z (length lent) (checked (ofCells cells)) ≡ Faulty r → (Refused r, lent) ≡ running cells w z lent
   unfolding running
-  run-refused r e = rw e
+  run-refused r e = rw (running, e)
 
-  pub run-admitted : (d : Sizes) (o : Ran × List ℕ) → admitted w z (length lent) (checked (ofCells cells)) ≡ Valid d
-      → o ≡ delivered lent (runs (tablesOf cells) z w 0 (0 ∷ [])) → o ≡ running cells w z lent
+  pub run-admitted : (d : Sizes) {r : Ending} {out : List ℕ} → runAdmits w z (length lent) (checked (ofCells cells)) ≡ Valid d
+      → RanTo (runs (tablesOf cells) z w 0 (0 ∷ [])) lent r out → (Ended r, out) ≡ running cells w z lent
   unfolding running
-  run-admitted d o e f = rw e f
+  run-admitted d e (f, g) = rw (running, e, f, g)

@@ -8,54 +8,53 @@ use borrow.Author.Tests.{lt-ltb, le-ltb}
 use lib.ListN.{length, getD, drop, set, length-set, drop-of-length-le}
 use lib.Seq.{drop-cons, drop-set-lt, getD-set-same}
 use Rattle.book.specs.Tables.{Tables}
-use Rattle.machine.specs.Run.{ended, shifting, stopped, reducing, runs, kept, delivered}
-use Rattle.machine.specs.Stack.{stackOf, Settled, Fed}
+use Rattle.machine.specs.Run.{stops, toShift, stopped, reducing, runs, stackLeft}
+use Rattle.machine.specs.Stack.{stackOf, StackFrom, Fed, RanTo}
 use Rattle.machine.specs.StackLaws.{stack-length, stack-push, push}
 use Rattle.machine.specs.declared.Ending.{Ending}
 use Rattle.machine.specs.declared.Ending.the-variants.{Deep, Passed}
 use Rattle.machine.specs.declared.Entered.the-variants.{Ended as Closed, Depth}
-use Rattle.machine.specs.declared.Ran.the-variants.{Ended}
 
 -- ---- a symbol of the sentence
 module _ (B : Tables) (a taken depth : ℕ) {S : ℕ} {lent cells : List ℕ} {n : ℕ} where
-  pub fed-ended : {e : Ending} → ended e (stackOf cells n) ≡ reducing B a taken 4096 (stackOf lent depth) → Settled S lent cells n
+  pub fed-ended : {e : Ending} → stops e (stackOf cells n) ≡ reducing B a taken 4096 (stackOf lent depth) → StackFrom S lent cells n
       → Fed B S lent cells depth a taken (Closed e n)
   unfolding runs
-  fed-ended h s = ((λ z w. rw (← h)), s)
+  fed-ended h s = ((λ z w. rw (runs, ← h)), s)
 
-  pub fed-push : {x : ℕ} → shifting x (stackOf cells n) ≡ reducing B a taken 4096 (stackOf lent depth) → Settled S lent cells n → x < S → n < 1024
+  pub fed-push : {x : ℕ} → toShift x (stackOf cells n) ≡ reducing B a taken 4096 (stackOf lent depth) → StackFrom S lent cells n → x < S → n < 1024
       → Fed B S lent (set cells n x) depth a taken (Depth (n + 1))
   unfolding runs
   fed-push {x} h s b l = (
-    (λ z w. rw (← h, le-ltb 1024 (suc (length (stackOf cells n))) (rw stack-length (omega arith)), stack-push cells n x (omega (arith, s .stacked .room)))),
+    (λ z w. rw (runs, ← h, le-ltb 1024 (suc (length (stackOf cells n))) (rw stack-length (omega arith)), stack-push cells n x (omega (arith, s .stacked .room)))),
     push s (omega arith) l b,
   )
 
-  pub fed-deep : {x : ℕ} → shifting x (stackOf cells n) ≡ reducing B a taken 4096 (stackOf lent depth) → Settled S lent cells n → 1024 ≤ n
+  pub fed-deep : {x : ℕ} → toShift x (stackOf cells n) ≡ reducing B a taken 4096 (stackOf lent depth) → StackFrom S lent cells n → 1024 ≤ n
       → Fed B S lent cells depth a taken (Closed (Deep (stopped (stackOf cells n) a taken)) n)
   unfolding runs
-  fed-deep {x} h s l = ((λ z w. rw (← h, lt-ltb 1024 (suc (length (stackOf cells n))) (rw stack-length (omega arith)))), s)
+  fed-deep {x} h s l = ((λ z w. rw (runs, ← h, lt-ltb 1024 (suc (length (stackOf cells n))) (rw stack-length (omega arith)))), s)
 
 -- ---- the end: what lies after the stack cells is as it was lent
 module _ (B : Tables) (z taken depth : ℕ) {S : ℕ} {lent cells out : List ℕ} {n : ℕ} where
-  pub finish-ended : {e : Ending} → ended e (stackOf cells n) ≡ reducing B z taken 4096 (stackOf lent depth) → Settled S lent cells n
-      → out ≡ kept (stackOf cells n) cells → (Ended e, out) ≡ delivered lent (runs B z [] taken (stackOf lent depth))
+  pub finish-ended : {e : Ending} → stops e (stackOf cells n) ≡ reducing B z taken 4096 (stackOf lent depth) → StackFrom S lent cells n
+      → out ≡ stackLeft (stackOf cells n) cells → RanTo (runs B z [] taken (stackOf lent depth)) lent e out
   unfolding runs
-  finish-ended h s o = rw (← h, o) (rw (s .rest))
+  finish-ended h s o = rw (runs, ← h) (refl, o ∙ rw (s .rest))
 
-  pub finish-shift : {x : ℕ} → shifting x (stackOf cells n) ≡ reducing B z taken 4096 (stackOf lent depth) → Settled S lent cells n
-      → out ≡ kept (stackOf cells n) cells
-      → (Ended (Passed (stopped (stackOf cells n) z taken)), out) ≡ delivered lent (runs B z [] taken (stackOf lent depth))
+  pub finish-shift : {x : ℕ} → toShift x (stackOf cells n) ≡ reducing B z taken 4096 (stackOf lent depth) → StackFrom S lent cells n
+      → out ≡ stackLeft (stackOf cells n) cells
+      → RanTo (runs B z [] taken (stackOf lent depth)) lent (Passed (stopped (stackOf cells n) z taken)) out
   unfolding runs
-  finish-shift h s o = rw (← h, o) (rw (s .rest))
+  finish-shift h s o = rw (runs, ← h) (refl, o ∙ rw (s .rest))
 
 -- what the loop knows: from here on the run goes as from its start
 pub record Driving (B : Tables) (S z : ℕ) (w lent cells : List ℕ) (depth taken : ℕ) : Type 0 where
-  pub settled : Settled S lent cells depth
+  pub settled : StackFrom S lent cells depth
   pub within : taken ≤ length w
   pub same : runs B z (drop taken w) taken (stackOf cells depth) ≡ runs B z w 0 (0 ∷ [])
 
-settled-on : {S : ℕ} {lent mid cells : List ℕ} {m n : ℕ} → Settled S lent mid m → Settled S mid cells n → Settled S lent cells n
+settled-on : {S : ℕ} {lent mid cells : List ℕ} {m n : ℕ} → StackFrom S lent mid m → StackFrom S mid cells n → StackFrom S lent cells n
 settled-on s t = record { stacked = t .stacked; rest = t .rest ∙ s .rest }
 
 module _ {B : Tables} {S z : ℕ} {w : List ℕ} (lent : List ℕ) where
@@ -86,15 +85,15 @@ module _ {B : Tables} {S z : ℕ} {w lent cells : List ℕ} {depth taken : ℕ} 
   }
 
   pub driving-ended : {new out : List ℕ} {e : Ending} {n : ℕ} → taken < length w → Fed B S cells new depth (getD w taken 0) taken (Closed e n)
-      → out ≡ kept (stackOf new n) new → (Ended e, out) ≡ delivered lent (runs B z w 0 (0 ∷ []))
-  driving-ended h f o = rw (← next-symbol h, ← f .0 z (drop (suc taken) w), o, f .1 .rest, r .settled .rest)
+      → out ≡ stackLeft (stackOf new n) new → RanTo (runs B z w 0 (0 ∷ [])) lent e out
+  driving-ended h f o = rw (← next-symbol h, ← f .0 z (drop (suc taken) w)) (refl, o ∙ rw (f .1 .rest, r .settled .rest))
 
-  pub driving-done : {out : List ℕ} {e : Ending} → length w ≤ taken → (Ended e, out) ≡ delivered cells (runs B z [] taken (stackOf cells depth))
-      → (Ended e, out) ≡ delivered lent (runs B z w 0 (0 ∷ []))
+  pub driving-done : {out : List ℕ} {e : Ending} → length w ≤ taken → RanTo (runs B z [] taken (stackOf cells depth)) cells e out
+      → RanTo (runs B z w 0 (0 ∷ [])) lent e out
   driving-done h f =
       let all : runs B z [] taken (stackOf cells depth) ≡ runs B z w 0 (0 ∷ []) = rw (drop-of-length-le w h) at (r .same) in
-      f ∙ rw (all, r .settled .rest)
+      (f .0 ∙ rw all, f .1 ∙ rw (all, r .settled .rest))
 
 -- the first state is stored among the stack cells
-pub delivered-set : (lent : List ℕ) (o : Ending × List ℕ) → delivered (set lent 0 0) o ≡ delivered lent o
-delivered-set lent o = rw (drop-set-lt 1024 lent 0 0 (omega arith))
+pub ran-set : {r : Ending} {out : List ℕ} (lent : List ℕ) (o : Ending × List ℕ) → RanTo o (set lent 0 0) r out → RanTo o lent r out
+ran-set lent o (e, f) = (e, f ∙ rw (drop-set-lt 1024 lent 0 0 (omega arith)))

@@ -10,7 +10,7 @@ use Rattle.book.specs.Tables.{Tables}
 use Rattle.book.specs.TablesLaws.{InRange}
 use Rattle.book.specs.declared.Action.{Action}
 use Rattle.book.specs.declared.Action.the-variants.{Error, Accept, Shift, Reduce}
-use Rattle.machine.specs.Machine.{breaks, shifts, reduces, goes, lands, does, next, Step, shift, reduce, Steps, done, then, Terminals, none, more, Reaches}
+use Rattle.machine.specs.Machine.{breaks, shifts, reduces, goes, lands, does, next, Step, shift, reduce, Steps, done, then, Terminals, none, more}
 
 -- what a reduction from the stack q ∷ st under a comes from: the production, and the state then on top with its goto
 pub record Reduction (B : Tables) (q : ℕ) (st : List ℕ) (a : ℕ) (st′ : List ℕ) : Type 0 where
@@ -109,10 +109,6 @@ module _ {B : Tables} where
 
   pub steps-after : {s u s₁ u₁ s₂ u₂ : List ℕ} → Steps B s u s₁ u₁ → Steps B s u s₂ u₂ → length u₂ < length u₁ → Steps B s₁ u₁ s₂ u₂
   steps-after r r′ h = ⊎-elim (λ x. x) (λ x. absurd (omega (arith, steps-input x))) (steps-det r r′)
-
-  -- the empty sentence reaches (0, z) for every z
-  pub reaches-start : (z : ℕ) → Reaches B [] z 0
-  reaches-start z = record { terminals = none; below = []; run = done }
 
   -- 'no state shifts' the end mark: what is taken in lies in 1 .. T - 1
   pub taken-terminal : InRange B → {st st′ u : List ℕ} {a : ℕ} → Step B st (a ∷ u) st′ u → (1 ≤ a) × (a < B .terminals)

@@ -5,26 +5,18 @@ use mathlib.Core.List.{List, [], _∷_, _++_}
 use Prim.Native.Nat.{ℕ, zero, suc, _+_, _≤_}
 use native.Mathlib.Nat.{zero-add, add-zero, add-suc, suc-add}
 use native.Mathlib.Omega.{arith}
-use lib.Dec.{ltb}
 use lib.ListN.{length, drop, getD}
 use lib.Seq.{drop-length}
-use Rattle.number.specs.declared.Refusal.{Refusal}
-use Rattle.book.specs.Book.{ofCells, checked}
-use Rattle.book.specs.Tables.{Tables, tablesOf}
-use Rattle.book.specs.TablesLaws.{valid-holds}
+use Rattle.book.specs.Tables.{Tables}
 use Rattle.book.specs.declared.Action.{Action}
 use Rattle.book.specs.declared.Action.the-variants.{Error as Fail, Accept, Shift, Reduce}
-use Rattle.book.specs.declared.Checked.{Checked}
-use Rattle.book.specs.declared.Checked.the-variants.{Valid, Refused as Faulty}
-use Rattle.book.specs.declared.Sizes.{Sizes}
 use Rattle.machine.specs.Machine.{Move, accepts, fails, breaks, shifts, reduces, goes, lands, does, next, Step, shift, reduce, Steps, done, then, Terminals, none, more, Reaches}
 use Rattle.machine.specs.MachineLaws.{_⊕_, clash, next-empty}
-use Rattle.machine.specs.AdmissionLaws.{sound-head, Admitted, admitted-valid}
-use Rattle.machine.specs.Run.{Pause, ended, shifting, stopped, halts, unless, pushed, reducing, concluded, runs, sound, admitted, unrefused, running}
+use Rattle.machine.specs.AdmissionLaws.{sound-head}
+use Rattle.machine.specs.ReducingLaws.{turn-stops, turn-shift}
+use Rattle.machine.specs.Run.{Limited, stops, toShift, stopped, stopOf, tooMany, reducing, runs, soundPrefix}
 use Rattle.machine.specs.declared.Ending.{Ending}
 use Rattle.machine.specs.declared.Ending.the-variants.{Accepted, Error, Broken, Passed, Deep, Spinning}
-use Rattle.machine.specs.declared.Ran.{Ran}
-use Rattle.machine.specs.declared.Ran.the-variants.{Ended, Refused}
 use Rattle.machine.specs.declared.Stop.{Stop}
 
 -- a shift or a reduction, which can be done
@@ -41,51 +33,37 @@ Next m n (Passed stop) = (s : ℕ) × (m ≡ shifts s) × (stop .taken ≡ n)
 Next m n (Deep stop) = Goes m
 Next m n (Spinning stop) = Goes m
 
-abbrev pub stopOf : Ending → Stop
-stopOf (Accepted stop) = stop
-stopOf (Error stop) = stop
-stopOf (Broken stop) = stop
-stopOf (Passed stop) = stop
-stopOf (Deep stop) = stop
-stopOf (Spinning stop) = stop
-
 -- ---- the reductions before the symbol a, which u follows
-abbrev After : Tables → ℕ → ℕ → List ℕ → ℕ → List ℕ → Pause → Type 0
-After B a taken u n st₀ (ended e st) = Steps B st₀ (a ∷ u) st (a ∷ u) × (stopOf e ≡ stopped st a taken) × Next (next B st a) n e
-After B a taken u n st₀ (shifting s st) = Steps B st₀ (a ∷ u) st (a ∷ u) × (next B st a ≡ shifts s)
+abbrev After : Tables → ℕ → ℕ → List ℕ → ℕ → List ℕ → Limited 0 → Type 0
+After B a taken u n st₀ (stops e st) = Steps B st₀ (a ∷ u) st (a ∷ u) × (stopOf e ≡ stopped st a taken) × Next (next B st a) n e
+After B a taken u n st₀ (toShift s st) = Steps B st₀ (a ∷ u) st (a ∷ u) × (next B st a ≡ shifts s)
 
 module _ (B : Tables) (a taken : ℕ) (u : List ℕ) (n : ℕ) where
-  after-step : {st new : List ℕ} → Step B st (a ∷ u) new (a ∷ u) → (p : Pause) → After B a taken u n new p → After B a taken u n st p
-  after-step x (ended e st) (r, s, m) = (then x r, s, m)
-  after-step x (shifting s st) (r, m) = (then x r, m)
+  after-step : {st new : List ℕ} → Step B st (a ∷ u) new (a ∷ u) → (o : Limited 0) → After B a taken u n new o → After B a taken u n st o
+  after-step x (stops e st) (r, s, m) = (then x r, s, m)
+  after-step x (toShift s st) (r, m) = (then x r, m)
 
-  after-halts : (st : List ℕ) (onward : List ℕ → Pause) → ((new : List ℕ) → next B st a ≡ reduces new → After B a taken u n st (onward new))
-      → (m : Move) → next B st a ≡ m → After B a taken u n st (halts (stopped st a taken) st onward m)
-  after-halts st onward f accepts e = (done, refl, e)
-  after-halts st onward f fails e = (done, refl, e)
-  after-halts st onward f breaks e = (done, refl, e)
-  after-halts st onward f (shifts s) e = (done, e)
-  after-halts st onward f (reduces new) e = f new e
+  after-move : (left : ℕ) (st : List ℕ) (m : Move) → next B st a ≡ m
+      → ((new : List ℕ) → next B st a ≡ reduces new → After B a taken u n st (reducing B a taken left st)) → After B a taken u n st (reducing B a taken left st)
+  after-move left st accepts e f = rw (← turn-stops B a taken st left accepts (Accepted (stopped st a taken)) (sym e) (λ l. refl)) (done, refl, e)
+  after-move left st fails e f = rw (← turn-stops B a taken st left fails (Error (stopped st a taken)) (sym e) (λ l. refl)) (done, refl, e)
+  after-move left st breaks e f = rw (← turn-stops B a taken st left breaks (Broken (stopped st a taken)) (sym e) (λ l. refl)) (done, refl, e)
+  after-move left st (shifts s) e f = rw (← turn-shift B a taken st left s (sym e)) (done, e)
+  after-move left st (reduces new) e f = f new e
 
-  after-unless : (st : List ℕ) (deep : Pause) (onward : List ℕ → Pause) (new : List ℕ) (b : Bool) → After B a taken u n st deep
-      → After B a taken u n st (onward new) → After B a taken u n st (unless b deep onward new)
-  after-unless st deep onward new true d o = d
-  after-unless st deep onward new false d o = o
+  after-none : (st new : List ℕ) → next B st a ≡ reduces new → After B a taken u n st (reducing B a taken 0 st)
+  unfolding reducing
+  after-none st new e = let g : Goes (next B st a) = rw e by-reduction in rw e (done, refl, g)
 
-  goes-reduction : (st new : List ℕ) → next B st a ≡ reduces new → Goes (next B st a)
-  goes-reduction st new e = rw e by-reduction
+  after-more : (k : ℕ) (st new : List ℕ) → next B st a ≡ reduces new → After B a taken u n new (reducing B a taken k new) → (b : Bool) → tooMany new ≡ b
+      → After B a taken u n st (reducing B a taken (suc k) st)
+  unfolding reducing
+  after-more k st new e x true t = let g : Goes (next B st a) = rw e by-reduction in rw (reducing, e, t) (done, refl, g)
+  after-more k st new e x false t = rw (reducing, e, t) (after-step (reduce e) (reducing B a taken k new) x)
 
   after-reducing : (left : ℕ) (st : List ℕ) → After B a taken u n st (reducing B a taken left st)
-  unfolding reducing
-  after-reducing zero st =
-      after-halts st (λ new. ended (Spinning (stopped st a taken)) st) (λ new e. (done, refl, goes-reduction st new e)) (next B st a) refl
-  after-reducing (suc k) st =
-      after-halts st _
-      (λ new e.
-      after-unless st (ended (Deep (stopped st a taken)) st) (λ on. reducing B a taken k on) new (ltb 1024 (length new))
-      (done, refl, goes-reduction st new e)
-      (after-step (reduce e) (reducing B a taken k new) (after-reducing k new)))
-      (next B st a) refl
+  after-reducing zero st = after-move zero st (next B st a) refl (after-none st)
+  after-reducing (suc k) st = after-move (suc k) st (next B st a) refl (λ new e. after-more k st new e (after-reducing k new) (tooMany new) refl)
 
 -- ---- the symbols: how the run goes on from a stack with v still to come and k taken in
 record Ends (B : Tables) (z : ℕ) (v : List ℕ) (k : ℕ) (st₀ : List ℕ) (o : Ending × List ℕ) : Type 0 where
@@ -113,9 +91,10 @@ module _ (B : Tables) (z k : ℕ) where
     move = rw s n;
   }
 
-  ends-last : (st₀ : List ℕ) (p : Pause) → After B z k [] (k + 0) st₀ p → Ends B z [] k st₀ (concluded (λ s top. (Passed (stopped top z k), top)) p)
-  ends-last st₀ (ended e st) (r, s, n) = here z [] [] st₀ st e refl r s n
-  ends-last st₀ (shifting s st) (r, n) = here z [] [] st₀ st (Passed (stopped st z k)) refl r refl (s, n, sym (add-zero k))
+  ends-last : (st₀ : List ℕ) (o : Limited 0) → reducing B z k 4096 st₀ ≡ o → After B z k [] (k + 0) st₀ o → Ends B z [] k st₀ (runs B z [] k st₀)
+  unfolding runs
+  ends-last st₀ (stops e st) i (r, s, n) = rw (runs, i) (here z [] [] st₀ st e refl r s n)
+  ends-last st₀ (toShift s st) i (r, n) = rw (runs, i) (here z [] [] st₀ st (Passed (stopped st z k)) refl r refl (s, n, sym (add-zero k)))
 
   module _ (a : ℕ) (w : List ℕ) where
     -- .. or after the symbol a
@@ -132,21 +111,21 @@ module _ (B : Tables) (z k : ℕ) where
       move = rw (add-suc, ← suc-add) (x .move);
     }
 
-    ends-first : (st₀ : List ℕ) → ((st : List ℕ) → Ends B z w (suc k) st (runs B z w (suc k) st)) → (p : Pause)
-        → After B a k (w ++ (z ∷ [])) (k + suc (length w)) st₀ p
-        → Ends B z (a ∷ w) k st₀ (concluded (λ s top. pushed (Deep (stopped top a k), top) (λ new. runs B z w (suc k) new) (s ∷ top)) p)
-    ends-first st₀ f (ended e st) (r, s, n) = here a (w ++ (z ∷ [])) (a ∷ w) st₀ st e refl r s n
-    ends-first st₀ f (shifting s st) (r, n) = go (ltb 1024 (length (s ∷ st)))
+    ends-first : (st₀ : List ℕ) → ((st : List ℕ) → Ends B z w (suc k) st (runs B z w (suc k) st)) → (o : Limited 0) → reducing B a k 4096 st₀ ≡ o
+        → After B a k (w ++ (z ∷ [])) (k + suc (length w)) st₀ o → Ends B z (a ∷ w) k st₀ (runs B z (a ∷ w) k st₀)
+    unfolding runs
+    ends-first st₀ f (stops e st) i (r, s, n) = rw (runs, i) (here a (w ++ (z ∷ [])) (a ∷ w) st₀ st e refl r s n)
+    ends-first st₀ f (toShift s st) i (r, n) = go (tooMany (s ∷ st)) refl
       where
-        go : (b : Bool) → Ends B z (a ∷ w) k st₀ (unless b (Deep (stopped st a k), st) (λ new. runs B z w (suc k) new) (s ∷ st))
-        go true = here a (w ++ (z ∷ [])) (a ∷ w) st₀ st (Deep (stopped st a k)) refl r refl (rw n by-shift)
-        go false = later st₀ st s (runs B z w (suc k) (s ∷ st)) r n (f (s ∷ st))
+        go : (b : Bool) → tooMany (s ∷ st) ≡ b → Ends B z (a ∷ w) k st₀ (runs B z (a ∷ w) k st₀)
+        go true t = rw (runs, i, t) (here a (w ++ (z ∷ [])) (a ∷ w) st₀ st (Deep (stopped st a k)) refl r refl (rw n by-shift))
+        go false t = rw (runs, i, t) (later st₀ st s (runs B z w (suc k) (s ∷ st)) r n (f (s ∷ st)))
 
 runs-ends : (B : Tables) (z : ℕ) (v : List ℕ) (k : ℕ) (st : List ℕ) → Ends B z v k st (runs B z v k st)
-unfolding runs
-runs-ends B z [] k st = ends-last B z k st (reducing B z k 4096 st) (after-reducing B z k [] (k + 0) 4096 st)
+runs-ends B z [] k st = ends-last B z k st (reducing B z k 4096 st) refl (after-reducing B z k [] (k + 0) 4096 st)
 runs-ends B z (a ∷ w) k st =
-    ends-first B z k a w st (λ new. runs-ends B z w (suc k) new) (reducing B a k 4096 st) (after-reducing B a k (w ++ (z ∷ [])) (k + suc (length w)) 4096 st)
+    ends-first B z k a w st (λ new. runs-ends B z w (suc k) new) (reducing B a k 4096 st) refl
+    (after-reducing B a k (w ++ (z ∷ [])) (k + suc (length w)) 4096 st)
 
 -- ---- the run of w, then z, ends in the stack st: the unlimited machine gets there, and what it would do next is as the ending says
 pub record EndsAt (B : Tables) (w : List ℕ) (z : ℕ) (e : Ending) (st : List ℕ) : Type 0 where
@@ -183,7 +162,7 @@ module _ (B : Tables) (q a : ℕ) (st : List ℕ) where
   unfolding next
   next-fail e = does-fail (B .act q a) e
 
-pub sound-terminals : (B : Tables) (w : List ℕ) → sound (B .terminals) w ≡ length w → Terminals B w
+pub sound-terminals : (B : Tables) (w : List ℕ) → soundPrefix (B .terminals) w ≡ length w → Terminals B w
 sound-terminals B [] e = none
 sound-terminals B (a ∷ w) e = let (some, below, rest) = sound-head (B .terminals) a w e in more some below (sound-terminals B w rest)
 
@@ -201,32 +180,3 @@ run-error B w z stop e all t = go (runs B z w 0 (0 ∷ []) .1) (rw e at (run-end
           record { terminals = t; below = st; run = rw (all, drop-length) at (x .run) },
           next-fail B q z st (rw is at (x .move)),
         )
-
--- ---- what the call answers, of the unlimited machine
-pub record Called (cells w : List ℕ) (z : ℕ) (lent : List ℕ) (e : Ending) : Type 0 where
-  pub sizes : Sizes
-  pub admission : Admitted w z (length lent) (checked (ofCells cells)) sizes
-  pub ending : runs (tablesOf cells) z w 0 (0 ∷ []) .0 ≡ e
-
-ended-same : (x e : Ending) (a b : List ℕ) → _≡_ {A = Ran × List ℕ} (Ended x, a) (Ended e, b) → x ≡ e
-ended-same x e a b i = let j : Ended x ≡ Ended e = ap (λ (o : Ran × List ℕ). o .0) i in cc
-
-refused-not-ended : (r : Refusal) (e : Ending) (a b : List ℕ) → _≡_ {A = Ran × List ℕ} (Refused r, a) (Ended e, b) → ⊥
-refused-not-ended r e a b i = let j : Refused r ≡ Ended e = ap (λ (o : Ran × List ℕ). o .0) i in clash cc
-
-pub called : (cells w : List ℕ) (z : ℕ) (lent : List ℕ) (e : Ending) (out : List ℕ) → running cells w z lent ≡ (Ended e, out) → Called cells w z lent e
-unfolding running
-called cells w z lent e out is = go (admitted w z (length lent) (checked (ofCells cells))) refl is
-  where
-    go : (x : Checked) → admitted w z (length lent) (checked (ofCells cells)) ≡ x → unrefused (tablesOf cells) w z lent x ≡ (Ended e, out) → Called cells w z lent e
-    go (Faulty r) i f = absurd (refused-not-ended r e lent out f)
-    go (Valid d) i f = record { sizes = d; admission = admitted-valid w z (length lent) (checked (ofCells cells)) d i; ending = ended-same _ e _ out f }
-
-pub called-error : (cells w : List ℕ) (z : ℕ) (lent : List ℕ) (stop : Stop) (out : List ℕ) → running cells w z lent ≡ (Ended (Error stop), out)
-    → stop .taken ≡ length w → Reaches (tablesOf cells) w z (stop .state) × (tablesOf cells .act (stop .state) z ≡ Fail)
-unfolding tablesOf
-called-error cells w z lent stop out is all =
-    let c = called cells w z lent (Error stop) out is in
-    let h = valid-holds cells (c .sizes) (c .admission .book) in
-    let t : sound (tablesOf cells .terminals) w ≡ length w = rw (h .sizes) at (c .admission .terminals) in
-    run-error (tablesOf cells) w z stop (c .ending) all (sound-terminals (tablesOf cells) w t)

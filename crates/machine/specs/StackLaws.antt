@@ -19,8 +19,8 @@ use Rattle.book.specs.declared.Action.the-variants.{Shift, Reduce}
 use Rattle.book.specs.declared.Sizes.{Sizes}
 use Rattle.machine.specs.Machine.{breaks, reduces, goes, lands, does, next}
 use Rattle.machine.specs.MachineLaws.{clash}
-use Rattle.machine.specs.Run.{kept}
-use Rattle.machine.specs.Stack.{stackOf, Stacked, Settled}
+use Rattle.machine.specs.Run.{stackLeft}
+use Rattle.machine.specs.Stack.{stackOf, StackIn, StackFrom}
 
 -- ---- the stack in the cells
 module _ (cells : List ℕ) where
@@ -56,7 +56,7 @@ module _ (cells : List ℕ) where
 
 module _ {S : ℕ} {lent : List ℕ} where
   -- m states are kept and one is pushed
-  pub push : {cells : List ℕ} {n m v : ℕ} → Settled S lent cells n → m ≤ n → m < 1024 → v < S → Settled S lent (set cells m v) (m + 1)
+  pub push : {cells : List ℕ} {n m v : ℕ} → StackFrom S lent cells n → m ≤ n → m < 1024 → v < S → StackFrom S lent (set cells m v) (m + 1)
   push {cells} {n} {m} {v} s h l b =
       let t = s .stacked in
       record {
@@ -64,7 +64,7 @@ module _ {S : ℕ} {lent : List ℕ} where
         rest = drop-set-lt 1024 cells m v l ∙ s .rest;
       }
     where
-      states : Stacked S cells n → (j : ℕ) → j < m + 1 → getD (set cells m v) j 0 < S
+      states : StackIn S cells n → (j : ℕ) → j < m + 1 → getD (set cells m v) j 0 < S
       states t j k = go (ℕ-discrete j m)
         where
           go : Dec (j ≡ m) → getD (set cells m v) j 0 < S
@@ -107,7 +107,7 @@ module _ {lent : List ℕ} {depth : ℕ} where
             ∙ over-more (take depth lent ++ replicate (i - depth) 0) (0 ∷ []) lent (rw e (omega (arith, c .room))));
       }
 
-  pub cleared-done : {cells : List ℕ} {i : ℕ} → Cleared lent cells depth i → 1024 ≤ i → cells ≡ kept (stackOf lent depth) lent
+  pub cleared-done : {cells : List ℕ} {i : ℕ} → Cleared lent cells depth i → 1024 ≤ i → cells ≡ stackLeft (stackOf lent depth) lent
   cleared-done {cells} {i} c h =
       let k : i ≡ 1024 = omega (arith, c .most) in
       let e : length (take depth lent ++ replicate (1024 - depth) 0) ≡ 1024 = cleared-length lent depth 1024 (omega (arith, c .from)) (c .room) in

@@ -1,8 +1,8 @@
 // What is refused before a run.
 ghost use mathlib.Core.Path.{_≡_};
 ghost use Rattle.book.specs.Book.{ofCells, checked};
-ghost use Rattle.book.specs.declared.Checked.the-variants.{Valid};
-ghost use Rattle.machine.specs.Run.{sound, refused, admitted};
+ghost use Rattle.book.specs.declared.Checked.the-variants.{Valid, Refused};
+ghost use Rattle.machine.specs.Run.{soundPrefix, runAdmits};
 use crate::DEPTH;
 use book::Checked;
 use book::Sizes;
@@ -12,14 +12,14 @@ use number::Refusal;
 const LONGEST: usize = 1000;
 
 fn refuse(number: u8, place: usize) -> Checked
-    ensures { λ r. ⌜ r ≡ refused number place ⌝ }
+    ensures { λ r. ⌜ r ≡ Refused (record { number = number; place = place }) ⌝ }
 {
     Checked::Refused(Refusal { number, place })
 }
 
 // The index of the first symbol that is 0, or t or more, or the length where there is none.
 fn first_unsound(sentence: &[u8], t: usize) -> usize
-    ensures { λ r. ⌜ r ≡ sound t (now (sentence .entry)) ⌝ }
+    ensures { λ r. ⌜ r ≡ soundPrefix t (now (sentence .entry)) ⌝ }
 {
     let mut i: usize = 0;
     while i < sentence.len() {
@@ -37,7 +37,7 @@ fn first_unsound(sentence: &[u8], t: usize) -> usize
 
 // The refusals of sentence, lookahead and stack cells for a book of the sizes d, which are handed back.
 fn admit_input(d: Sizes, sentence: &[u8], lookahead: u16, room: usize) -> Checked
-    ensures { λ r. ⌜ r ≡ admitted (now (sentence .entry)) lookahead room (Valid d) ⌝ }
+    ensures { λ r. ⌜ r ≡ runAdmits (now (sentence .entry)) lookahead room (Valid d) ⌝ }
 {
     if sentence.len() > LONGEST {
         return refuse(8, 0);
@@ -57,7 +57,7 @@ fn admit_input(d: Sizes, sentence: &[u8], lookahead: u16, room: usize) -> Checke
 
 // The sizes of the book, or the first refusal.
 pub fn admit(cells: &[u16], sentence: &[u8], lookahead: u16, room: usize) -> Checked
-    ensures { λ r. ⌜ r ≡ admitted (now (sentence .entry)) lookahead room (checked (ofCells (now (cells .entry)))) ⌝ }
+    ensures { λ r. ⌜ r ≡ runAdmits (now (sentence .entry)) lookahead room (checked (ofCells (now (cells .entry)))) ⌝ }
 {
     match book::check(cells) {
         Checked::Refused(r) => Checked::Refused(r),

@@ -5,9 +5,8 @@ ghost use Prim.Native.Nat.{_≤_, _<_};
 ghost use lib.ListN.{length};
 ghost use Rattle.book.specs.Tables.{tablesOf};
 ghost use Rattle.book.specs.TablesLaws.{Holds};
-ghost use Rattle.machine.specs.Run.{runs, kept, sound, delivered};
-ghost use Rattle.machine.specs.Stack.{stackOf, Stacked, Fed};
-ghost use Rattle.machine.specs.declared.Ran.the-variants.{Ended};
+ghost use Rattle.machine.specs.Run.{runs, stackLeft, soundPrefix};
+ghost use Rattle.machine.specs.Stack.{stackOf, StackIn, Fed, RanTo};
 use crate::DEPTH;
 use crate::Ending;
 use crate::Entered;
@@ -19,7 +18,7 @@ use book::Sizes;
 // Zeros above the stack.
 fn clear(stack: &mut [u16], depth: usize)
     requires { ⌜ (depth ≤ 1024) × (1024 ≤ length (now stack)) ⌝ }
-    ensures { λ _. ⌜ now (stack .exit) ≡ kept (stackOf (now (stack .entry)) depth) (now (stack .entry)) ⌝ }
+    ensures { λ _. ⌜ now (stack .exit) ≡ stackLeft (stackOf (now (stack .entry)) depth) (now (stack .entry)) ⌝ }
 {
     let mut i = depth;
     while i < DEPTH {
@@ -38,7 +37,7 @@ fn take_in(
     taken: usize,
 ) -> Entered
     requires { ⌜ Holds d (now cells) ⌝ }
-    requires { ⌜ Stacked (d .s) (now stack) depth ⌝ }
+    requires { ⌜ StackIn (d .s) (now stack) depth ⌝ }
     requires { ⌜ a < d .t ⌝ }
     ensures { λ r. ⌜ Fed (tablesOf (now (cells .entry))) (d .s) (now (stack .entry)) (now (stack .exit)) depth a taken r ⌝ }
 {
@@ -57,9 +56,9 @@ fn take_in(
 // Reduces before the lookahead, when all of the sentence is in.
 fn finish(cells: &[u16], d: Sizes, stack: &mut [u16], depth: usize, z: u16, taken: usize) -> Ending
     requires { ⌜ Holds d (now cells) ⌝ }
-    requires { ⌜ Stacked (d .s) (now stack) depth ⌝ }
+    requires { ⌜ StackIn (d .s) (now stack) depth ⌝ }
     requires { ⌜ z < d .t ⌝ }
-    ensures { λ r. ⌜ (Ended r, now (stack .exit)) ≡ delivered (now (stack .entry)) (runs (tablesOf (now (cells .entry))) z [] taken (stackOf (now (stack .entry)) depth)) ⌝ }
+    ensures { λ r. ⌜ RanTo (runs (tablesOf (now (cells .entry))) z [] taken (stackOf (now (stack .entry)) depth)) (now (stack .entry)) r (now (stack .exit)) ⌝ }
 {
     match reduce(cells, d, stack, depth, z, taken) {
         Paused::Ended(e, n) => {
@@ -77,10 +76,10 @@ fn finish(cells: &[u16], d: Sizes, stack: &mut [u16], depth: usize, z: u16, take
 // Runs a sentence that was admitted.
 pub fn drive(cells: &[u16], d: Sizes, sentence: &[u8], z: u16, stack: &mut [u16]) -> Ending
     requires { ⌜ Holds d (now cells) ⌝ }
-    requires { ⌜ sound (d .t) (now sentence) ≡ length (now sentence) ⌝ }
+    requires { ⌜ soundPrefix (d .t) (now sentence) ≡ length (now sentence) ⌝ }
     requires { ⌜ z < d .t ⌝ }
     requires { ⌜ 1024 ≤ length (now stack) ⌝ }
-    ensures { λ r. ⌜ (Ended r, now (stack .exit)) ≡ delivered (now (stack .entry)) (runs (tablesOf (now (cells .entry))) z (now (sentence .entry)) 0 (0 ∷ [])) ⌝ }
+    ensures { λ r. ⌜ RanTo (runs (tablesOf (now (cells .entry))) z (now (sentence .entry)) 0 (0 ∷ [])) (now (stack .entry)) r (now (stack .exit)) ⌝ }
 {
     stack[0] = 0;
     let mut depth: usize = 1;

@@ -5,7 +5,7 @@ mod looks;
 mod reductions;
 
 ghost use mathlib.Core.Path.{_≡_};
-ghost use Rattle.machine.specs.Run.{running};
+ghost use Rattle.machine.specs.Run.{stopOf, running};
 use book::Checked;
 pub use driver::drive;
 use number::Refusal;
@@ -60,6 +60,20 @@ enum Paused {
 enum Entered {
     Ended(Ending, usize),
     Depth(usize),
+}
+
+// Where the run ended.
+pub fn stop_of(e: Ending) -> Stop
+    ensures { λ s. ⌜ s ≡ stopOf e ⌝ }
+{
+    match e {
+        Ending::Accepted(stop) => stop,
+        Ending::Error(stop) => stop,
+        Ending::Broken(stop) => stop,
+        Ending::Passed(stop) => stop,
+        Ending::Deep(stop) => stop,
+        Ending::Spinning(stop) => stop,
+    }
 }
 
 // Runs a sentence, then its lookahead, on the book in the cells. Leaves in the first 1,024 stack cells the stack before the step that was

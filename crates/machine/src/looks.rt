@@ -6,7 +6,7 @@ ghost use Rattle.book.specs.Tables.{tablesOf};
 ghost use Rattle.book.specs.TablesLaws.{Holds};
 ghost use Rattle.machine.specs.Machine.{lands, next};
 ghost use Rattle.machine.specs.Run.{stopped};
-ghost use Rattle.machine.specs.Stack.{stackOf, Stacked, Looked, limited, Turned};
+ghost use Rattle.machine.specs.Stack.{stackOf, StackIn, Looked, Turned};
 use crate::DEPTH;
 use crate::Ending;
 use crate::Seen;
@@ -18,7 +18,7 @@ use book::Sizes;
 // Production p, on a stack of as many states as depth says.
 fn reduction(cells: &[u16], d: Sizes, stack: &[u16], depth: usize, p: usize) -> Seen
     requires { ⌜ Holds d (now cells) ⌝ }
-    requires { ⌜ Stacked (d .s) (now stack) depth ⌝ }
+    requires { ⌜ StackIn (d .s) (now stack) depth ⌝ }
     requires { ⌜ p < d .p ⌝ }
     ensures { λ r. ⌜ Looked (d .s) (now (stack .entry)) depth (lands (tablesOf (now (cells .entry))) (tablesOf (now (cells .entry)) .lhs p) (drop (tablesOf (now (cells .entry)) .len p) (stackOf (now (stack .entry)) depth))) r ⌝ }
 {
@@ -37,7 +37,7 @@ fn reduction(cells: &[u16], d: Sizes, stack: &[u16], depth: usize, p: usize) -> 
 
 fn look(cells: &[u16], d: Sizes, stack: &[u16], depth: usize, a: u16) -> Seen
     requires { ⌜ Holds d (now cells) ⌝ }
-    requires { ⌜ Stacked (d .s) (now stack) depth ⌝ }
+    requires { ⌜ StackIn (d .s) (now stack) depth ⌝ }
     requires { ⌜ a < d .t ⌝ }
     ensures { λ r. ⌜ Looked (d .s) (now (stack .entry)) depth (next (tablesOf (now (cells .entry))) (stackOf (now (stack .entry)) depth) a) r ⌝ }
 {
@@ -62,11 +62,23 @@ pub fn stop_at(stack: &[u16], depth: usize, a: u16, taken: usize) -> Stop
     }
 }
 
-// The limits on what was seen, where as many more reductions may be done as left says.
-fn limit(seen: Seen, stop: Stop, left: usize) -> Turn
-    ensures { λ r. ⌜ r ≡ limited stop left seen ⌝ }
+// One turn of the reductions before a symbol, where as many more may be done as left says.
+pub fn turn(
+    cells: &[u16],
+    d: Sizes,
+    stack: &[u16],
+    depth: usize,
+    a: u16,
+    taken: usize,
+    left: usize,
+) -> Turn
+    requires { ⌜ Holds d (now cells) ⌝ }
+    requires { ⌜ StackIn (d .s) (now stack) depth ⌝ }
+    requires { ⌜ a < d .t ⌝ }
+    ensures { λ r. ⌜ Turned (tablesOf (now (cells .entry))) (d .s) (now (stack .entry)) depth a taken left r ⌝ }
 {
-    match seen {
+    let stop = stop_at(stack, depth, a, taken);
+    match look(cells, d, stack, depth, a) {
         Seen::Accept => Turn::Ended(Ending::Accepted(stop)),
         Seen::Error => Turn::Ended(Ending::Error(stop)),
         Seen::Broken => Turn::Ended(Ending::Broken(stop)),
@@ -81,23 +93,4 @@ fn limit(seen: Seen, stop: Stop, left: usize) -> Turn
             Turn::Reduce(m, g)
         }
     }
-}
-
-// One turn of the reductions before a symbol.
-pub fn turn(
-    cells: &[u16],
-    d: Sizes,
-    stack: &[u16],
-    depth: usize,
-    a: u16,
-    taken: usize,
-    left: usize,
-) -> Turn
-    requires { ⌜ Holds d (now cells) ⌝ }
-    requires { ⌜ Stacked (d .s) (now stack) depth ⌝ }
-    requires { ⌜ a < d .t ⌝ }
-    ensures { λ r. ⌜ Turned (tablesOf (now (cells .entry))) (d .s) (now (stack .entry)) depth a taken left r ⌝ }
-{
-    let stop = stop_at(stack, depth, a, taken);
-    limit(look(cells, d, stack, depth, a), stop, left)
 }

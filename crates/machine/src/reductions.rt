@@ -3,7 +3,7 @@ ghost use Prim.Native.Nat.{_<_};
 ghost use Rattle.book.specs.Tables.{tablesOf};
 ghost use Rattle.book.specs.TablesLaws.{Holds};
 ghost use Rattle.machine.specs.Run.{reducing};
-ghost use Rattle.machine.specs.Stack.{stackOf, Stacked, Held};
+ghost use Rattle.machine.specs.Stack.{stackOf, StackIn, Held};
 use crate::Paused;
 use crate::Turn;
 use crate::looks::turn;
@@ -22,7 +22,7 @@ pub fn reduce(
     taken: usize,
 ) -> Paused
     requires { ⌜ Holds d (now cells) ⌝ }
-    requires { ⌜ Stacked (d .s) (now stack) depth ⌝ }
+    requires { ⌜ StackIn (d .s) (now stack) depth ⌝ }
     requires { ⌜ a < d .t ⌝ }
     ensures { λ r. ⌜ Held (d .s) (now (stack .entry)) (now (stack .exit)) (reducing (tablesOf (now (cells .entry))) a taken 4096 (stackOf (now (stack .entry)) depth)) r ⌝ }
 {

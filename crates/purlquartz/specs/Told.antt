@@ -7,6 +7,7 @@ use Rattle.book.specs.declared.Checked.{Checked}
 use Rattle.book.specs.declared.Checked.the-variants.{Valid, Refused as Faulty}
 use Rattle.book.specs.declared.Written.{Written}
 use Rattle.book.specs.declared.Written.the-variants.{Count, Refused as Unwritten}
+use Rattle.machine.specs.Run.{stopOf}
 use Rattle.machine.specs.declared.Ending.{Ending}
 use Rattle.machine.specs.declared.Ending.the-variants.{Accepted, Error, Broken, Passed, Deep, Spinning}
 use Rattle.machine.specs.declared.Ran.{Ran}
@@ -48,14 +49,6 @@ kindOf (Deep stop) = 5
 kindOf (Spinning stop) = 6
 
 -- 'with the top state, the symbol looked at and how many were taken in'
-abbrev pub stopOf : Ending → Stop
-stopOf (Accepted stop) = stop
-stopOf (Error stop) = stop
-stopOf (Broken stop) = stop
-stopOf (Passed stop) = stop
-stopOf (Deep stop) = stop
-stopOf (Spinning stop) = stop
-
 abbrev pub ended : ℕ → Stop → List ℕ
 ended kind stop = kind ∷ stop .state ∷ stop .symbol ∷ stop .taken ∷ 0 ∷ 0 ∷ []
 

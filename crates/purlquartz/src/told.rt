@@ -1,6 +1,6 @@
 // The answers as six numbers.
 ghost use mathlib.Core.Path.{_≡_};
-ghost use Rattle.purlquartz.specs.Told.{refusal, written, checked, kindOf, stopOf, ended, ran, found, listed, entry, wrong, judged};
+ghost use Rattle.purlquartz.specs.Told.{refusal, written, checked, kindOf, ended, ran, found, listed, entry, wrong, judged};
 use book::Checked;
 use book::Written;
 use finder::Found;
@@ -10,6 +10,7 @@ use lists::Nth;
 use machine::Ending;
 use machine::Ran;
 use machine::Stop;
+use machine::stop_of;
 use number::Refusal;
 
 fn tell_refusal(r: Refusal) -> [u64; 6]
@@ -46,19 +47,6 @@ fn kind_of(e: Ending) -> u64
         Ending::Passed(_) => 4,
         Ending::Deep(_) => 5,
         Ending::Spinning(_) => 6,
-    }
-}
-
-fn stop_of(e: Ending) -> Stop
-    ensures { λ s. ⌜ s ≡ stopOf e ⌝ }
-{
-    match e {
-        Ending::Accepted(stop) => stop,
-        Ending::Error(stop) => stop,
-        Ending::Broken(stop) => stop,
-        Ending::Passed(stop) => stop,
-        Ending::Deep(stop) => stop,
-        Ending::Spinning(stop) => stop,
     }
 }
 

@@ -17,7 +17,7 @@ returns : tie.Need-returns
 returns c = run-refused (c .before .before .before .before .before .before .before .args .cells .now) (c .before .before .before .before .before .before .before .args .sentence .now) (c .before .before .before .before .before .before .before .args .lookahead) (c .before .before .before .before .before .before .before .args .stack .now) _ (sym (c .before .before .before .admit .ensures) ∙ c .before .r .given .1)
 
 returns-2 : tie.Need-returns-2
-returns-2 c = run-admitted (c .before .before .before .before .before .before .before .before .before .before .before .args .cells .now) (c .before .before .before .before .before .before .before .before .before .before .before .args .sentence .now) (c .before .before .before .before .before .before .before .before .before .before .before .args .lookahead) (c .before .before .before .before .before .before .before .before .before .before .before .args .stack .now) (c .before .before .before .before .before .d .given .0 .0) _ (sym (c .before .before .before .before .before .before .before .admit .ensures) ∙ c .before .before .before .before .before .d .given .1) (c .before .before .drive .ensures)
+returns-2 c = run-admitted (c .before .before .before .before .before .before .before .before .before .before .before .args .cells .now) (c .before .before .before .before .before .before .before .before .before .before .before .args .sentence .now) (c .before .before .before .before .before .before .before .before .before .before .before .args .lookahead) (c .before .before .before .before .before .before .before .before .before .before .before .args .stack .now) (c .before .before .before .before .before .d .given .0 .0) (sym (c .before .before .before .before .before .before .before .admit .ensures) ∙ c .before .before .before .before .before .d .given .1) (c .before .before .drive .ensures)
 
 pub run-spec : {M : Type 1} → statement M
 run-spec =

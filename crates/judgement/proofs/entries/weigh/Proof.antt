@@ -11,15 +11,15 @@ unfolding weighed
 returns c = rw (sym (c .before .is-right .ensures) ∙ not-true _ (c .if1 .taken))
 
 element-copy-out-if2 : tie.Need-element-copy-out-if2
-element-copy-out-if2 c = rw (c .state-of .ensures) (c .before .before .before .pre (sym (c .before .before .is-right .ensures) ∙ not-false _ (c .before .if1 .left)))
+element-copy-out-if2 c = rw (c .stop-of .ensures) (c .before .before .before .pre (sym (c .before .before .is-right .ensures) ∙ not-false _ (c .before .if1 .left)))
 
 returns-2 : tie.Need-returns-2
 unfolding weighed
-returns-2 c = rw (sym (c .before .before .before .before .is-right .ensures) ∙ not-false _ (c .before .before .before .if1 .left), ← c .before .before .state-of .ensures, ne-eqb _ _ (c .if2 .taken))
+returns-2 c = rw (sym (c .before .before .before .before .is-right .ensures) ∙ not-false _ (c .before .before .before .if1 .left), ← c .before .before .stop-of .ensures, ne-eqb _ _ (c .if2 .taken))
 
 returns-3 : tie.Need-returns-3
 unfolding weighed
-returns-3 c = rw (sym (c .before .before .before .before .is-right .ensures) ∙ not-false _ (c .before .before .before .if1 .left), ← c .before .before .state-of .ensures, eq-eqb _ _ (c .if2 .left))
+returns-3 c = rw (sym (c .before .before .before .before .is-right .ensures) ∙ not-false _ (c .before .before .before .if1 .left), ← c .before .before .stop-of .ensures, eq-eqb _ _ (c .if2 .left))
 
 pub weigh-spec : {M : Type 1} → statement M
 weigh-spec =

@@ -1,6 +1,6 @@
 -- `machine::admission::admit` meets its contract: the book, then what is run on it. Assumes nothing.
 use mathlib.Core.Path.{sym, _∙_}
-use Rattle.machine.specs.Run.{admitted}
+use Rattle.machine.specs.Run.{runAdmits}
 use borrow.Author.Needs.{needs}
 use Rattle.machine.proofs.admission.admit.Statement.{statement}
 use Rattle.machine.proofs.admission.admit.Tie as tie
@@ -18,7 +18,7 @@ admit-input-requires : tie.Need-admit-input-requires
 admit-input-requires c κs = search needs
 
 returns : tie.Need-returns
-unfolding admitted
+unfolding runAdmits
 returns c = rw (sym (c .before .before .before .check .ensures) ∙ c .before .r .given .1)
 
 returns-2 : tie.Need-returns-2

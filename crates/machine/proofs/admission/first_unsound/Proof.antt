@@ -4,14 +4,14 @@ use Prim.Native.Nat.{_+_, _-_, _≤_}
 use native.Mathlib.Nat.{zero-add}
 use native.Mathlib.Omega.{arith}
 use lib.ListN.{length, drop}
-use Rattle.machine.specs.Run.{sound}
+use Rattle.machine.specs.Run.{soundPrefix}
 use Rattle.machine.specs.AdmissionLaws.{sound-more, sound-zero, sound-high, sound-none}
 use borrow.Author.Needs.{needs}
 use Rattle.machine.proofs.admission.first_unsound.Statement.{statement}
 use Rattle.machine.proofs.admission.first_unsound.Tie as tie
 
 abbrev Inv-loop : tie.InvT-loop
-Inv-loop sentence t i₀ i = (i ≤ length sentence) × (sound t sentence ≡ i + sound t (drop i sentence))
+Inv-loop sentence t i₀ i = (i ≤ length sentence) × (soundPrefix t sentence ≡ i + soundPrefix t (drop i sentence))
 
 abbrev μ-loop : tie.MeasureT-loop
 μ-loop sentence t i₀ i = length sentence - i

@@ -7,7 +7,7 @@ use Prim.Native.Nat.{_-_}
 use native.Mathlib.Omega.{arith}
 use Rattle.book.specs.Tables.{tablesOf}
 use Rattle.machine.specs.AdmissionLaws.{sound-at}
-use Rattle.machine.specs.DrivingLaws.{Driving, driving-none, driving-more, driving-ended, driving-done, delivered-set}
+use Rattle.machine.specs.DrivingLaws.{Driving, driving-none, driving-more, driving-ended, driving-done, ran-set}
 use borrow.Author.Needs.{needs}
 use Rattle.machine.proofs.driver.drive.Statement.{statement}
 use Rattle.machine.proofs.driver.drive.Tie as tie
@@ -37,7 +37,7 @@ same-length : tie.Need-same-length Inv-loop μ-loop
 same-length c = c .before .before .clear .kept .0 ∙ (c .before .before .before .before .before .before .before .before .before .take-in .kept .1 .1 .0 ∙ (c .before .before .before .before .before .before .before .before .before .before .before .before .before .loop .inv .0 ∙ length-set (c .before .before .before .before .before .before .before .before .before .before .before .before .before .before .before .before .before .args .stack .now) 0 0))
 
 returns : tie.Need-returns Inv-loop μ-loop
-returns c = let h = rw (c .before .before .before .before .before .e .given .1) at (c .before .before .before .before .before .before .before .before .before .take-in .ensures) in driving-ended (c .before .before .before .before .before .before .before .before .before .before .before .before .before .loop .inv .1) (c .before .before .before .before .before .before .before .before .before .before .before .before .loop-test .taken) h (c .before .before .clear .ensures) ∙ delivered-set (c .before .before .before .before .before .before .before .before .before .before .before .before .before .before .before .before .before .args .stack .now) (runs (tablesOf (c .before .before .before .before .before .before .before .before .before .before .before .before .before .before .before .before .before .args .cells .now)) (c .before .before .before .before .before .before .before .before .before .before .before .before .before .before .before .before .before .args .z) (c .before .before .before .before .before .before .before .before .before .before .before .before .before .before .before .before .before .args .sentence .now) 0 (0 ∷ []))
+returns c = let h = rw (c .before .before .before .before .before .e .given .1) at (c .before .before .before .before .before .before .before .before .before .take-in .ensures) in ran-set (c .before .before .before .before .before .before .before .before .before .before .before .before .before .before .before .before .before .args .stack .now) (runs (tablesOf (c .before .before .before .before .before .before .before .before .before .before .before .before .before .before .before .before .before .args .cells .now)) (c .before .before .before .before .before .before .before .before .before .before .before .before .before .before .before .before .before .args .z) (c .before .before .before .before .before .before .before .before .before .before .before .before .before .before .before .before .before .args .sentence .now) 0 (0 ∷ [])) (driving-ended (c .before .before .before .before .before .before .before .before .before .before .before .before .before .loop .inv .1) (c .before .before .before .before .before .before .before .before .before .before .before .before .loop-test .taken) h (c .before .before .clear .ensures))
 
 loop-again : tie.Need-loop-again Inv-loop μ-loop
 loop-again c = let h = rw (c .before .n .given .1) at (c .before .before .before .before .before .take-in .ensures) in (search needs, driving-more (c .before .before .before .before .before .before .before .before .before .loop .inv .1) (c .before .before .before .before .before .before .before .before .loop-test .taken) h)
@@ -49,7 +49,7 @@ same-length-2 : tie.Need-same-length-2 Inv-loop μ-loop
 same-length-2 c = c .before .before .finish .kept .1 .1 .0 ∙ (c .before .before .before .before .before .loop .inv .0 ∙ length-set (c .before .before .before .before .before .before .before .before .before .args .stack .now) 0 0)
 
 returns-2 : tie.Need-returns-2 Inv-loop μ-loop
-returns-2 c = driving-done (c .before .before .before .before .before .loop .inv .1) (c .before .before .before .before .loop-test .left) (c .before .before .finish .ensures) ∙ delivered-set (c .before .before .before .before .before .before .before .before .before .args .stack .now) (runs (tablesOf (c .before .before .before .before .before .before .before .before .before .args .cells .now)) (c .before .before .before .before .before .before .before .before .before .args .z) (c .before .before .before .before .before .before .before .before .before .args .sentence .now) 0 (0 ∷ []))
+returns-2 c = ran-set (c .before .before .before .before .before .before .before .before .before .args .stack .now) (runs (tablesOf (c .before .before .before .before .before .before .before .before .before .args .cells .now)) (c .before .before .before .before .before .before .before .before .before .args .z) (c .before .before .before .before .before .before .before .before .before .args .sentence .now) 0 (0 ∷ [])) (driving-done (c .before .before .before .before .before .loop .inv .1) (c .before .before .before .before .loop-test .left) (c .before .before .finish .ensures))
 
 pub drive-spec : {M : Type 1} → statement M
 drive-spec =
