@@ -19,8 +19,11 @@ mapped σ Unreached = unreached σ
 mapped σ Long = long σ
 mapped σ (Sentence w) = cost σ w
 
--- the right answer on a scale. `Shortest` has it in the words of forms 1 and 2
+-- the right answer on a scale for a set P of words: for a pair, those that reach it. `Shortest` has it in the words of forms 1 and 2
+abbrev pub Best : Scale → (ℕ → ℕ) → (List ℕ → Type 0) → Outcome → Type 0
+Best σ rank P Unreached = (w : List ℕ) → ¬ P w
+Best σ rank P Long = ((w : List ℕ) × P w) × ((w : List ℕ) → P w → σ .limit < cost σ w)
+Best σ rank P (Sentence w) = P w × (cost σ w ≤ σ .limit) × ((v : List ℕ) → P v → v ≢ w → Better σ rank w v)
+
 abbrev pub Answer : Scale → (ℕ → ℕ) → Tables → ℕ → ℕ → Outcome → Type 0
-Answer σ rank B s z Unreached = (w : List ℕ) → ¬ Reaches B w z s
-Answer σ rank B s z Long = ((w : List ℕ) × Reaches B w z s) × ((w : List ℕ) → Reaches B w z s → σ .limit < cost σ w)
-Answer σ rank B s z (Sentence w) = Reaches B w z s × (cost σ w ≤ σ .limit) × ((v : List ℕ) → Reaches B v z s → v ≢ w → Better σ rank w v)
+Answer σ rank B s z = Best σ rank (λ w. Reaches B w z s)

@@ -1,11 +1,9 @@
--- A scale of tariffs, and the answer for one pair in its words: least charge, then fewest symbols, then ranks. No call uses it yet; it shows that a
+-- A scale of tariffs, and the answer in its words: least charge, then fewest symbols, then ranks. No call uses it yet; it shows that a
 -- scale can order by two measures. Assumes nothing.
 use mathlib.Core.List.{List, [], _∷_}
 use mathlib.Core.Logic.{_⊎_, _≢_}
 use mathlib.Core.Path.{_≡_}
 use Prim.Native.Nat.{ℕ, _+_, _*_, _≤_, _<_}
-use Rattle.book.specs.Tables.{Tables}
-use Rattle.machine.specs.Machine.{Reaches}
 use Rattle.walk.specs.Scale.{Scale}
 use Rattle.walk.specs.Answer.{Outcome, Unreached, Long, Sentence}
 use Rattle.walk.specs.Shortest.{Shorter}
@@ -23,12 +21,11 @@ charge tariff (t ∷ w) = tariff t + charge tariff w
 abbrev pub Cheaper : (ℕ → ℕ) → (ℕ → ℕ) → List ℕ → List ℕ → Type 0
 Cheaper tariff rank v w = (charge tariff v < charge tariff w) ⊎ ((charge tariff v ≡ charge tariff w) × Shorter rank v w)
 
--- 'Long means that some sequence arrives but none for at most 60,000 tenths'
-abbrev pub Cheapest : (ℕ → ℕ) → (ℕ → ℕ) → Tables → ℕ → ℕ → Outcome → Type 0
-Cheapest tariff rank B s z Unreached = (w : List ℕ) → ¬ Reaches B w z s
-Cheapest tariff rank B s z Long = ((w : List ℕ) × Reaches B w z s) × ((w : List ℕ) → Reaches B w z s → 60_000 < charge tariff w)
-Cheapest tariff rank B s z (Sentence w) =
-    Reaches B w z s × (charge tariff w ≤ 60_000) × ((v : List ℕ) → Reaches B v z s → v ≢ w → Cheaper tariff rank w v)
+-- of a set P of words: 'Long means that some sequence arrives but none for at most 60,000 tenths'
+abbrev pub Cheapest : (ℕ → ℕ) → (ℕ → ℕ) → (List ℕ → Type 0) → Outcome → Type 0
+Cheapest tariff rank P Unreached = (w : List ℕ) → ¬ P w
+Cheapest tariff rank P Long = ((w : List ℕ) × P w) × ((w : List ℕ) → P w → 60_000 < charge tariff w)
+Cheapest tariff rank P (Sentence w) = P w × (charge tariff w ≤ 60_000) × ((v : List ℕ) → P v → v ≢ w → Cheaper tariff rank w v)
 
 -- 'the map holds charges, with 60,001 and 60,002 as its two marks'
 abbrev pub chargeOf : (ℕ → ℕ) → Outcome → ℕ

@@ -12,7 +12,7 @@ use Rattle.walk.specs.Scale.{Scale, unreached}
 use Rattle.walk.specs.Cost.{cost}
 use Rattle.walk.specs.Order.{Earlier, Better}
 use Rattle.walk.specs.OrderLaws.{before-length, before-earlier, earlier-before}
-use Rattle.walk.specs.Answer.{Outcome, Unreached, Long, Sentence, mapped, Answer}
+use Rattle.walk.specs.Answer.{Outcome, Unreached, Long, Sentence, mapped, Best, Answer}
 use Rattle.walk.specs.Shortest.{Shorter}
 use Rattle.walk.specs.Cheapest.{tariffed, charge, Cheaper, Cheapest, chargeOf}
 
@@ -53,20 +53,20 @@ module _ {tariff : ℕ → ℕ} (some : (t : ℕ) → 1 ≤ tariff t) where
         tied e (inl l) = inl (omega (arith, cost-charge tariff v, cost-charge tariff w))
         tied e (inr r) = inr (omega (arith, before-length r, cost-charge tariff v, cost-charge tariff w), before-earlier r)
 
-  module _ (rank : ℕ → ℕ) (B : Tables) (s z : ℕ) where
-    pub answer-cheapest : (o : Outcome) → Answer (tariffed tariff) rank B s z o ↔ Cheapest tariff rank B s z o
-    answer-cheapest Unreached = (λ a. a, λ a. a)
-    answer-cheapest Long = (
-      λ (x, f). (x, λ w r. omega (arith, f w r, cost-charge tariff w, symbols-charged w)),
-      λ (x, f). (x, λ w r. omega (arith, f w r, cost-charge tariff w)),
+  module _ (rank : ℕ → ℕ) (P : List ℕ → Type 0) where
+    pub best-cheapest : (o : Outcome) → Best (tariffed tariff) rank P o ↔ Cheapest tariff rank P o
+    best-cheapest Unreached = (λ a. a, λ a. a)
+    best-cheapest Long = (
+      λ (x, f). (x, λ w p. omega (arith, f w p, cost-charge tariff w, symbols-charged w)),
+      λ (x, f). (x, λ w p. omega (arith, f w p, cost-charge tariff w)),
     )
-    answer-cheapest (Sentence w) = (
-      λ (r, h, f). let l = limit-charge w .0 h in (r, l, λ v p n. better-cheaper w v l .0 (f v p n)),
-      λ (r, l, f). (r, limit-charge w .1 l, λ v p n. better-cheaper w v l .1 (f v p n)),
+    best-cheapest (Sentence w) = (
+      λ (p, h, f). let l = limit-charge w .0 h in (p, l, λ v q n. better-cheaper w v l .0 (f v q n)),
+      λ (p, l, f). (p, limit-charge w .1 l, λ v q n. better-cheaper w v l .1 (f v q n)),
     )
 
     -- the map's entry is the cost without the count of symbols; the mark for unreached is one for itself
-    pub mapped-charge : (o : Outcome) → Answer (tariffed tariff) rank B s z o → mapped (tariffed tariff) o < unreached (tariffed tariff)
+    pub mapped-charge : (o : Outcome) → Best (tariffed tariff) rank P o → mapped (tariffed tariff) o < unreached (tariffed tariff)
         → mapped (tariffed tariff) o / 65_536 ≡ chargeOf tariff o
     mapped-charge Unreached a h = absurd (omega arith)
     mapped-charge Long a h = refl
@@ -85,15 +85,18 @@ module _ {σ ρ : Scale} {B : Tables} (g : Agree σ ρ B) where
   cost-agree none = refl
   cost-agree (more {a} h i t) = omega (arith, g .extra a h i, cost-agree t)
 
-  module _ (rank : ℕ → ℕ) (s z : ℕ) where
-    pub answer-agree : (o : Outcome) → Answer σ rank B s z o → Answer ρ rank B s z o
-    answer-agree Unreached a = a
-    answer-agree Long (x, f) = (x, λ w r. omega (arith, f w r, g .limit, cost-agree (r .terminals)))
-    answer-agree (Sentence w) (r, h, f) = (
-      r,
-      omega (arith, h, g .limit, cost-agree (r .terminals)),
-      λ v p n. ⊎-elim
-          (λ l. inl (omega (arith, l, cost-agree (r .terminals), cost-agree (p .terminals))))
-          (λ (e, b). inr (omega (arith, e, cost-agree (r .terminals), cost-agree (p .terminals)), b))
-          (f v p n),
+  module _ (rank : ℕ → ℕ) {P : List ℕ → Type 0} (t : (w : List ℕ) → P w → Terminals B w) where
+    pub best-agree : (o : Outcome) → Best σ rank P o → Best ρ rank P o
+    best-agree Unreached a = a
+    best-agree Long (x, f) = (x, λ w p. omega (arith, f w p, g .limit, cost-agree (t w p)))
+    best-agree (Sentence w) (p, h, f) = (
+      p,
+      omega (arith, h, g .limit, cost-agree (t w p)),
+      λ v q n. ⊎-elim
+          (λ l. inl (omega (arith, l, cost-agree (t w p), cost-agree (t v q))))
+          (λ (e, b). inr (omega (arith, e, cost-agree (t w p), cost-agree (t v q)), b))
+          (f v q n),
     )
+
+  pub answer-agree : (rank : ℕ → ℕ) (s z : ℕ) (o : Outcome) → Answer σ rank B s z o → Answer ρ rank B s z o
+  answer-agree rank s z o a = best-agree rank (λ w r. r .terminals) o a

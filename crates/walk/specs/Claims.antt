@@ -7,8 +7,8 @@ use lib.ListN.{drop}
 use Rattle.book.specs.Tables.{Tables}
 use Rattle.book.specs.declared.Action.the-variants.{Shift, Reduce}
 use Rattle.walk.specs.Walk.{Walk}
-use Rattle.walk.specs.Scale.{Scale, unreached, shiftCost}
-use Rattle.walk.specs.Cost.{plus, Attained}
+use Rattle.walk.specs.Scale.{Scale, unreached, cap, shiftCost}
+use Rattle.walk.specs.Cost.{cost, plus, Attained}
 
 -- w crosses the goto of state q under the nonterminal X, where z follows and a is the first terminal of w z: a walk of the length of a
 -- production of X, to a state that reduces it under z
@@ -34,11 +34,15 @@ pub data Claimed (σ : Scale) (B : Tables) (claim : Claims) : ℕ → ℕ → �
   crossing : {q a v b n q₁ q₂ : ℕ} (X z : ℕ) → Claimed σ B claim q a v b n q₁ → B .goto q₁ X ≡ suc q₂ → z < B .terminals
       → Claimed σ B claim q a (plus σ v (claim q₁ X b z)) z (suc n) q₂
 
--- the same for what is reached from any stack: by a claimed walk from its top, or by one to a reduction that pops the stack below the top
-pub data ClaimedGets (σ : Scale) (B : Tables) (claim : Claims) (s z : ℕ) : List ℕ → ℕ → ℕ → Type 0 where
-  arriving : {q a v n : ℕ} {st : List ℕ} → Claimed σ B claim q a v z n s → ClaimedGets σ B claim s z (q ∷ st) a v
+-- `Descends` by claims: an end from the stack, or a claimed walk to a reduction that pops the stack below the top, and then from the smaller stack
+pub data ClaimedDescends (σ : Scale) (B : Tables) (claim : Claims) (End : ℕ → List ℕ → ℕ → ℕ → ℕ → Type 0) : List ℕ → ℕ → ℕ → Type 0 where
+  arriving : {q a v n : ℕ} {st : List ℕ} → End q st a v n → ClaimedDescends σ B claim End (q ∷ st) a v
   popping : {q a v b x n q₁ p q₂ g : ℕ} {st st₂ : List ℕ} (k : ℕ) → Claimed σ B claim q a v b n q₁ → B .act q₁ b ≡ Reduce p → B .len p ≡ n + suc k
-      → drop k st ≡ q₂ ∷ st₂ → B .goto q₂ (B .lhs p) ≡ suc g → ClaimedGets σ B claim s z (g ∷ q₂ ∷ st₂) b x → ClaimedGets σ B claim s z (q ∷ st) a (plus σ v x)
+      → drop k st ≡ q₂ ∷ st₂ → B .goto q₂ (B .lhs p) ≡ suc g → ClaimedDescends σ B claim End (g ∷ q₂ ∷ st₂) b x → ClaimedDescends σ B claim End (q ∷ st) a (plus σ v x)
+
+-- .. to bring s on top with z next
+abbrev pub ClaimedGets : Scale → Tables → Claims → ℕ → ℕ → List ℕ → ℕ → ℕ → Type 0
+ClaimedGets σ B claim s z = ClaimedDescends σ B claim (λ q st a v n. Claimed σ B claim q a v z n s)
 
 -- no claim is more than what the claims make of a production for it
 pub record Closed (σ : Scale) (B : Tables) (claim : Claims) : Type 0 where
@@ -58,6 +62,11 @@ pub record Least (σ : Scale) (P : ℕ → Type 0) (v : ℕ) : Type 0 where
 pub record LeastWhere (σ : Scale) (C P : ℕ → Type 0) (v : ℕ) : Type 0 where
   pub below : (x : ℕ) → P x → C x → v ≤ x
   pub attained : (v ≡ unreached σ) ⊎ P v
+
+-- the claimed costs K stand for the words P: no word costs less than some claimed cost, and every claimed cost is what a word costs, or unreached
+pub record Matches (σ : Scale) (K : ℕ → Type 0) (P : List ℕ → Type 0) : Type 0 where
+  pub below : (w : List ℕ) → P w → (v : ℕ) × K v × (v ≤ cap σ (cost σ w))
+  pub above : (v : ℕ) → K v → Attained σ P v
 
 -- a claimed walk from the start to state s with z next, of any number of transitions
 abbrev pub Arrival : Scale → Tables → Claims → ℕ → ℕ → ℕ → Type 0

@@ -9,20 +9,13 @@ use Rattle.book.specs.Tables.{Tables}
 use Rattle.book.specs.TablesLaws.{InRange}
 use Rattle.book.specs.declared.Action.the-variants.{Shift, Reduce}
 use Rattle.machine.specs.Machine.{Reaches}
-use Rattle.walk.specs.Walk.{Walk, here, shifted, crossed, first, Gets, arrives, pops}
-use Rattle.walk.specs.WalkLaws.{Opens, empties, walk-begins, walk-terminal, gets-terminal, reaches-walk, walk-reaches}
+use Rattle.walk.specs.Walk.{Walk, here, shifted, crossed, first, Descends, arrives, pops, Gets}
+use Rattle.walk.specs.WalkLaws.{Opens, empties, walk-begins, walk-terminal, descends-terminal, reaches-walk, walk-reaches}
 use Rattle.walk.specs.Scale.{Scale, unreached, cap, shiftCost}
 use Rattle.walk.specs.Cost.{cost, plus, Attained, Exact}
 use Rattle.walk.specs.CostLaws.{plus-bounded, plus-zero, zero-plus, plus-comm, plus-assoc, plus-cost-le, attained-map, attained-plus}
-use Rattle.walk.specs.Claims.{Crosses, Claims, Claimed, none, shifting, crossing, Closed, Witnessed, Least, Arrival, Onward, ClaimedGets, arriving, popping}
-
--- words that match claimed costs, one way and the other
-below-then-exact : {σ : Scale} {K : ℕ → Type 0} {P : List ℕ → Type 0} {d : ℕ} → ((w : List ℕ) → P w → (v : ℕ) × K v × (v ≤ cap σ (cost σ w)))
-    → ((v : ℕ) → K v → Attained σ P v) → Least σ K d → Exact σ P d
-below-then-exact {d} f g l = record {
-  least = λ w p. let (v, k, h) = f w p in le-trans (l .below v k) h;
-  attained = ⊎-elim inl (g d) (l .attained);
-}
+use Rattle.walk.specs.Claims.{Crosses, Claims, Claimed, none, shifting, crossing, Closed, Witnessed, Least, Arrival, Onward, ClaimedDescends, arriving, popping, ClaimedGets, Matches}
+use Rattle.walk.specs.MatchesLaws.{matches-exact}
 
 -- what a transition, and a reduction, make of the cost of some walk is the cost of some walk, and of some crossing
 module _ (σ : Scale) {B : Tables} where
@@ -142,18 +135,29 @@ module _ {σ : Scale} {B : Tables} {claim : Claims} where
       (λ x. ⊎-elim (λ h. omega arith) (λ y. absurd (o y)) x)
       (claimed-begins k c)
 
-  -- the same two for what is reached from any stack
+  -- the same two for what is done from any stack, where they hold of the end
+  pub closed-descends-below : {K : ℕ → List ℕ → ℕ → ℕ → ℕ → Type 0} {E : ℕ → List ℕ → ℕ → List ℕ → ℕ → Type 0} {a : ℕ} {st w : List ℕ} → InRange B → Closed σ B claim
+      → ((q : ℕ) (st : List ℕ) (a : ℕ) (w : List ℕ) (n : ℕ) → E q st a w n → a < B .terminals)
+      → ((q : ℕ) (st : List ℕ) (a : ℕ) (w : List ℕ) (n : ℕ) → E q st a w n → (v : ℕ) × K q st a v n × (v ≤ cap σ (cost σ w))) → Descends B E st a w
+      → (v : ℕ) × ClaimedDescends σ B claim K st a v × (v ≤ cap σ (cost σ w))
+  closed-descends-below i k t f (arrives {q} {a} {n} {st} {w} r) = let (v, c, l) = f q st a w n r in (v, arriving c, l)
+  closed-descends-below i k t f (pops {w} {v} m r e h d g c) =
+      let (x, a, j) = closed-below i k (descends-terminal i t c) r in
+      let (y, b, l) = closed-descends-below i k t f c in
+      (plus σ x y, popping m a e h d g b, plus-cost-le σ w v j l)
+
+  pub witnessed-descends-above : {K : ℕ → List ℕ → ℕ → ℕ → ℕ → Type 0} {E : ℕ → List ℕ → ℕ → List ℕ → ℕ → Type 0} {a v : ℕ} {st : List ℕ} → Witnessed σ B claim
+      → ((q : ℕ) (st : List ℕ) (a v n : ℕ) → K q st a v n → Attained σ (λ w. E q st a w n) v) → ClaimedDescends σ B claim K st a v → Attained σ (Descends B E st a) v
+  witnessed-descends-above k f (arriving {q} {a} {v} {n} {st} c) = attained-map σ (λ w r. arrives r) (f q st a v n c)
+  witnessed-descends-above k f (popping m c e h d g b) = attained-plus σ (λ w u r t. pops m r e h d g t) (witnessed-above k c) (witnessed-descends-above k f b)
+
+  -- so to bring a state on top
   pub closed-gets-below : {s z a : ℕ} {st w : List ℕ} → InRange B → Closed σ B claim → z < B .terminals → Gets B s z st a w
       → (v : ℕ) × ClaimedGets σ B claim s z st a v × (v ≤ cap σ (cost σ w))
-  closed-gets-below i k h (arrives r) = let (v, c, l) = closed-below i k h r in (v, arriving c, l)
-  closed-gets-below i k h (pops {w} {v} m r e f d g c) =
-      let (x, a, j) = closed-below i k (gets-terminal i h c) r in
-      let (y, b, l) = closed-gets-below i k h c in
-      (plus σ x y, popping m a e f d g b, plus-cost-le σ w v j l)
+  closed-gets-below i k h g = closed-descends-below i k (λ q st a w n r. walk-terminal i h r) (λ q st a w n r. closed-below i k h r) g
 
   pub witnessed-gets-above : {s z a v : ℕ} {st : List ℕ} → Witnessed σ B claim → ClaimedGets σ B claim s z st a v → Attained σ (Gets B s z st a) v
-  witnessed-gets-above k (arriving c) = attained-map σ (λ w r. arrives r) (witnessed-above k c)
-  witnessed-gets-above k (popping m c e f d g b) = attained-plus σ (λ w u r t. pops m r e f d g t) (witnessed-above k c) (witnessed-gets-above k b)
+  witnessed-gets-above k c = witnessed-descends-above k (λ q st a v n c. witnessed-above k c) c
 
 module _ {σ : Scale} {B : Tables} {claim : Claims} (i : InRange B) (c : Closed σ B claim) where
   -- no crossing costs less than its claim
@@ -167,25 +171,46 @@ module _ {σ : Scale} {B : Tables} {claim : Claims} (i : InRange B) (c : Closed 
     pub claim-exact : {q X a z g : ℕ} → a < B .terminals → z < B .terminals → B .goto q X ≡ suc g → Exact σ (Crosses B q X a z) (claim q X a z)
     claim-exact {q} {X} {a} {z} ha hz g = record { least = λ w x. claim-least hz x; attained = k .witness q X a z ha hz g }
 
-    -- (iv) and so is the least over the claimed walks of n transitions
+    -- (iv) the claimed walks of n transitions stand for the walks, and so the least over them is exact
+    pub walk-matches : {q a z n q′ : ℕ} → z < B .terminals → Matches σ (λ v. Claimed σ B claim q a v z n q′) (λ w. Walk B q a w z n q′)
+    walk-matches h = record { below = λ w r. closed-below i c h r; above = λ v r. witnessed-above k r }
+
     pub layer-exact : {q a z n q′ d : ℕ} → z < B .terminals → Least σ (λ v. Claimed σ B claim q a v z n q′) d → Exact σ (λ w. Walk B q a w z n q′) d
-    layer-exact h l = below-then-exact (λ w r. closed-below i c h r) (λ v r. witnessed-above k r) l
+    layer-exact h l = matches-exact (walk-matches h) l
 
-    -- (v) the least over the claimed walks from the start
+    -- (v) likewise those from the start
+    pub start-matches : {s z : ℕ} → z < B .terminals → Matches σ (Arrival σ B claim s z) (λ w. Reaches B w z s)
+    start-matches {s} {z} h = record {
+      below = λ w r. let (n, t) = reaches-walk r in let (v, x, j) = closed-below i c h t in (v, (first w z, n, x), j);
+      above = λ v (a, n, r). attained-map σ (λ w t. walk-reaches i t) (witnessed-above k r);
+    }
+
     pub start-exact : {s z d : ℕ} → z < B .terminals → Least σ (Arrival σ B claim s z) d → Exact σ (λ w. Reaches B w z s) d
-    start-exact {s} {z} h l = below-then-exact
-        (λ w r. let (n, t) = reaches-walk r in let (v, x, j) = closed-below i c h t in (v, (first w z, n, x), j))
-        (λ v (a, n, r). attained-map σ (λ w t. walk-reaches i t) (witnessed-above k r))
-        l
+    start-exact h l = matches-exact (start-matches h) l
 
-    -- (vi) the least over the claimed walks to a set of goal pairs
+    -- (vi) those to a set of goal pairs
+    pub goal-matches : {Goal : ℕ → ℕ → Type 0} {q a : ℕ} → ((s z : ℕ) → Goal s z → z < B .terminals)
+        → Matches σ (Onward σ B claim Goal q a) (λ w. (n s z : ℕ) × Goal s z × Walk B q a w z n s)
+    goal-matches t = record {
+      below = λ w (n, s, z, h, r). let (v, x, j) = closed-below i c (t s z h) r in (v, (n, s, z, h, x), j);
+      above = λ v (n, s, z, h, r). attained-map σ (λ w x. (n, s, z, h, x)) (witnessed-above k r);
+    }
+
     pub goal-exact : {Goal : ℕ → ℕ → Type 0} {q a d : ℕ} → ((s z : ℕ) → Goal s z → z < B .terminals) → Least σ (Onward σ B claim Goal q a) d
         → Exact σ (λ w. (n s z : ℕ) × Goal s z × Walk B q a w z n s) d
-    goal-exact t l = below-then-exact
-        (λ w (n, s, z, h, r). let (v, x, j) = closed-below i c (t s z h) r in (v, (n, s, z, h, x), j))
-        (λ v (n, s, z, h, r). attained-map σ (λ w x. (n, s, z, h, x)) (witnessed-above k r))
-        l
+    goal-exact t l = matches-exact (goal-matches t) l
 
-    -- the least over what is claimed from a stack
+    -- (vii) what is claimed from a stack, where the ends match
+    pub descends-matches : {K : ℕ → List ℕ → ℕ → ℕ → ℕ → Type 0} {E : ℕ → List ℕ → ℕ → List ℕ → ℕ → Type 0} {a : ℕ} {st : List ℕ}
+        → ((q : ℕ) (st : List ℕ) (a : ℕ) (w : List ℕ) (n : ℕ) → E q st a w n → a < B .terminals)
+        → ((q : ℕ) (st : List ℕ) (a n : ℕ) → Matches σ (λ v. K q st a v n) (λ w. E q st a w n)) → Matches σ (ClaimedDescends σ B claim K st a) (Descends B E st a)
+    descends-matches t m = record {
+      below = λ w r. closed-descends-below i c t (λ q st a w n x. m q st a n .below w x) r;
+      above = λ v r. witnessed-descends-above k (λ q st a v n x. m q st a n .above v x) r;
+    }
+
+    pub gets-matches : {s z a : ℕ} {st : List ℕ} → z < B .terminals → Matches σ (ClaimedGets σ B claim s z st a) (Gets B s z st a)
+    gets-matches h = descends-matches (λ q st a w n r. walk-terminal i h r) (λ q st a n. walk-matches h)
+
     pub gets-exact : {s z a d : ℕ} {st : List ℕ} → z < B .terminals → Least σ (ClaimedGets σ B claim s z st a) d → Exact σ (Gets B s z st a) d
-    gets-exact h l = below-then-exact (λ w r. closed-gets-below i c h r) (λ v r. witnessed-gets-above k r) l
+    gets-exact h l = matches-exact (gets-matches h) l

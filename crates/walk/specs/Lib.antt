@@ -4,6 +4,7 @@ pub mod Scale
 pub mod Cost
 pub mod CostLaws
 pub mod Claims
+pub mod MatchesLaws
 pub mod ClaimsLaws
 pub mod Layers
 pub mod LayersLaws
@@ -15,8 +16,9 @@ pub mod Shortest
 pub mod ShortestLaws
 pub mod Cheapest
 pub mod CheapestLaws
-pub mod ChoiceLaws
 pub mod ShiftLaws
+pub mod Choice
+pub mod ChoiceLaws
 pub mod Stars
 pub mod StarsLaws
 pub mod Theory

@@ -1,10 +1,11 @@
 -- Before a symbol is taken in, the machine stands where it shifts it. Assumes nothing.
 use mathlib.Core.List.{List, [], _∷_}
 use mathlib.Core.Path.{_≡_}
-use Prim.Native.Nat.{ℕ, _≤_}
+use Prim.Native.Nat.{ℕ, _≤_, _<_}
 use native.Mathlib.Omega.{arith}
 use lib.ListN.{length, length-append}
 use Rattle.book.specs.Tables.{Tables}
+use Rattle.book.specs.TablesLaws.{InRange}
 use Rattle.book.specs.declared.Action.the-variants.{Shift}
 use Rattle.machine.specs.Machine.{shift, reduce, Steps, done, then}
 use Rattle.machine.specs.MachineLaws.{clash, next-shift, next-empty}
@@ -17,6 +18,10 @@ pub record Ready (B : Tables) (st : List ℕ) (x : ℕ) : Type 0 where
   pub target : ℕ
   pub action : B .act state x ≡ Shift target
   pub gets : Gets B state x st x []
+
+-- such a symbol is from 1 to T - 1
+pub ready-terminal : {B : Tables} {st : List ℕ} {x : ℕ} → InRange B → Ready B st x → (1 ≤ x) × (x < B .terminals)
+ready-terminal {x} i k = let (q, one, t, s) = i .shifts (k .state) x (k .target) (k .action) in (one, t)
 
 -- the same as a run, where u comes after x
 record Met (B : Tables) (st : List ℕ) (x : ℕ) (u : List ℕ) : Type 0 where

@@ -6,11 +6,12 @@ use Prim.Native.Nat.{ℕ}
 use native.Mathlib.Omega.{arith}
 use lib.ListN.{length}
 use Rattle.book.specs.Tables.{Tables}
+use Rattle.machine.specs.Machine.{Reaches}
 use Rattle.walk.specs.Scale.{plain}
 use Rattle.walk.specs.Cost.{cost}
 use Rattle.walk.specs.Order.{Better}
 use Rattle.walk.specs.OrderLaws.{before-length, before-earlier, earlier-before}
-use Rattle.walk.specs.Answer.{Outcome, Unreached, Long, Sentence, mapped, Answer}
+use Rattle.walk.specs.Answer.{Outcome, Unreached, Long, Sentence, mapped, Best, Answer}
 use Rattle.walk.specs.Shortest.{Shorter, Shortest, lengthOf}
 
 pub cost-length : (w : List ℕ) → cost plain w ≡ length w
@@ -23,14 +24,18 @@ better-shorter {rank} v w = (
   ⊎-elim (λ h. inl (omega (arith, cost-length v, cost-length w))) (λ r. inr (omega (arith, before-length r, cost-length v, cost-length w), before-earlier r)),
 )
 
-module _ (rank : ℕ → ℕ) (B : Tables) (s z : ℕ) where
-  pub answer-shortest : (o : Outcome) → Answer plain rank B s z o ↔ Shortest rank B s z o
-  answer-shortest Unreached = (λ a. a, λ a. a)
-  answer-shortest Long = (λ (x, f). (x, λ w r. omega (arith, f w r, cost-length w)), λ (x, f). (x, λ w r. omega (arith, f w r, cost-length w)))
-  answer-shortest (Sentence w) = (
-    λ (r, h, f). (r, omega (arith, h, cost-length w), λ v p n. better-shorter w v .0 (f v p n)),
-    λ (r, h, f). (r, omega (arith, h, cost-length w), λ v p n. better-shorter w v .1 (f v p n)),
+module _ (rank : ℕ → ℕ) (P : List ℕ → Type 0) where
+  pub best-shortest : (o : Outcome) → Best plain rank P o ↔ Shortest rank P o
+  best-shortest Unreached = (λ a. a, λ a. a)
+  best-shortest Long = (λ (x, f). (x, λ w p. omega (arith, f w p, cost-length w)), λ (x, f). (x, λ w p. omega (arith, f w p, cost-length w)))
+  best-shortest (Sentence w) = (
+    λ (p, h, f). (p, omega (arith, h, cost-length w), λ v q n. better-shorter w v .0 (f v q n)),
+    λ (p, h, f). (p, omega (arith, h, cost-length w), λ v q n. better-shorter w v .1 (f v q n)),
   )
+
+-- for a pair
+pub answer-shortest : (rank : ℕ → ℕ) (B : Tables) (s z : ℕ) (o : Outcome) → Answer plain rank B s z o ↔ Shortest rank (λ w. Reaches B w z s) o
+answer-shortest rank B s z o = best-shortest rank (λ w. Reaches B w z s) o
 
 pub mapped-length : (o : Outcome) → mapped plain o ≡ lengthOf o
 mapped-length Unreached = refl

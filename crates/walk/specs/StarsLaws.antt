@@ -192,7 +192,7 @@ module _ (B : Tables) (s z : ℕ) where
       terminals? (B .terminals) w && (leb (length w) 1000 && (hits B s z 64 (0 ∷ []) (w ++ (z ∷ []))
       && (upto (length w) (λ n. every (B .terminals) n missed) && every (B .terminals) (length w) (λ v. later w v || missed v))))
 
-  sentence-answer : (w : List ℕ) → sentence? w ≡ true → Shortest (λ a. a) B s z (Sentence w)
+  sentence-answer : (w : List ℕ) → sentence? w ≡ true → Shortest (λ a. a) (λ v. Reaches B v z s) (Sentence w)
   unfolding sentence?
   sentence-answer w e =
       let (a, e₁) = both _ _ e in

@@ -20,9 +20,24 @@ unfoldable pub first : List ℕ → ℕ → ℕ
 first [] z = z
 first (t ∷ w) z = t
 
--- Gets B s z stack a w: fed w z, whose first terminal is a, the machine started on the stack brings s on top with w taken in and z not:
--- by a walk from its top, or by a walk to a reduction that pops the stack below the top, k states of it, and then from the smaller stack
-pub data Gets (B : Tables) (s z : ℕ) : List ℕ → ℕ → List ℕ → Type 0 where
-  arrives : {q a n : ℕ} {st w : List ℕ} → Walk B q a w z n s → Gets B s z (q ∷ st) a w
+-- Chain B q st a w z n q′ st′: the stack q ∷ st has grown to q′ ∷ st′, n states more, by a walk of one transition for each, by taking in w; z is
+-- next, and a is the first terminal of w z
+pub data Chain (B : Tables) (q : ℕ) (st : List ℕ) (a : ℕ) : List ℕ → ℕ → ℕ → ℕ → List ℕ → Type 0 where
+  base : Chain B q st a [] a 0 q st
+  push : {b z n q₁ q₂ : ℕ} {w v st₁ : List ℕ} → Chain B q st a w b n q₁ st₁ → Walk B q₁ b v z 1 q₂ → Chain B q st a (w ++ v) z (suc n) q₂ (q₁ ∷ st₁)
+
+-- Descends B End stack a w: fed w and what follows, whose first terminal is a, the machine started on the stack comes to an end with w taken in:
+-- as End says, of the top, what is below it, a, w and how many states are pushed; or by a walk to a reduction that pops the stack below the
+-- top, k states of it, and then from the smaller stack
+pub data Descends (B : Tables) (End : ℕ → List ℕ → ℕ → List ℕ → ℕ → Type 0) : List ℕ → ℕ → List ℕ → Type 0 where
+  arrives : {q a n : ℕ} {st w : List ℕ} → End q st a w n → Descends B End (q ∷ st) a w
   pops : {q a b n q₁ p q₂ g : ℕ} {st w v st₂ : List ℕ} (k : ℕ) → Walk B q a w b n q₁ → B .act q₁ b ≡ Reduce p → B .len p ≡ n + suc k
-      → drop k st ≡ q₂ ∷ st₂ → B .goto q₂ (B .lhs p) ≡ suc g → Gets B s z (g ∷ q₂ ∷ st₂) b v → Gets B s z (q ∷ st) a (w ++ v)
+      → drop k st ≡ q₂ ∷ st₂ → B .goto q₂ (B .lhs p) ≡ suc g → Descends B End (g ∷ q₂ ∷ st₂) b v → Descends B End (q ∷ st) a (w ++ v)
+
+-- the machine brings s on top, with w taken in and z not
+abbrev pub Gets : Tables → ℕ → ℕ → List ℕ → ℕ → List ℕ → Type 0
+Gets B s z = Descends B (λ q st a w n. Walk B q a w z n s)
+
+-- .. and then the stack is s ∷ below
+abbrev pub Lands : Tables → ℕ → ℕ → List ℕ → List ℕ → ℕ → List ℕ → Type 0
+Lands B s z below = Descends B (λ q st a w n. Chain B q st a w z n s below)

@@ -6,14 +6,14 @@ use Prim.Native.Nat.{ℕ, zero, suc, _+_, _<_}
 use native.Mathlib.Nat.{add-zero, add-suc}
 use native.Mathlib.Numerals.{add-one}
 use native.Mathlib.Omega.{arith}
-use lib.ListN.{drop, length-append}
+use lib.ListN.{drop}
 use lib.Seq.{drop-drop, drop-nil}
 use Rattle.book.specs.Tables.{Tables}
 use Rattle.book.specs.TablesLaws.{InRange}
 use Rattle.book.specs.declared.Action.the-variants.{Shift, Reduce}
 use Rattle.machine.specs.Machine.{shift, reduce, Steps, done, then, Reaches}
-use Rattle.machine.specs.MachineLaws.{clash, step-shift, step-reduce, next-shift, next-reduce, next-empty, _⊕_, steps-after, taken-terminals}
-use Rattle.walk.specs.Walk.{Walk, here, shifted, crossed, first, Gets, arrives, pops}
+use Rattle.machine.specs.MachineLaws.{clash, step-shift, step-reduce, next-shift, next-reduce, next-empty, _⊕_, taken-terminals}
+use Rattle.walk.specs.Walk.{Walk, here, shifted, crossed, first, Chain, base, push, Descends, arrives, pops, Gets, Lands}
 
 -- what a walk does to a stack with q on top: it pushes n states
 pub record Pushed (B : Tables) (q : ℕ) (st w : List ℕ) (z n q′ : ℕ) (u : List ℕ) : Type 0 where
@@ -21,27 +21,22 @@ pub record Pushed (B : Tables) (q : ℕ) (st w : List ℕ) (z n q′ : ℕ) (u :
   pub popped : drop n (q′ ∷ above) ≡ q ∷ st
   pub run : Steps B (q ∷ st) (w ++ (z ∷ u)) (q′ ∷ above) (z ∷ u)
 
--- the stack q ∷ st has grown to q′ ∷ st′, a walk of one transition for each state pushed, by taking in w; z is next, and a is the first terminal of w z
-data Chain (B : Tables) (q : ℕ) (st : List ℕ) (a : ℕ) : List ℕ → ℕ → ℕ → List ℕ → Type 0 where
-  base : Chain B q st a [] a q st
-  push : {b z q₁ q₂ : ℕ} {w v st₁ : List ℕ} → Chain B q st a w b q₁ st₁ → Walk B q₁ b v z 1 q₂ → Chain B q st a (w ++ v) z q₂ (q₁ ∷ st₁)
+-- m states of a chain are popped, and q′ ∷ st′ is left: they are a walk, and the rest is a chain ..
+pub record Inside (B : Tables) (q : ℕ) (st : List ℕ) (a : ℕ) (w : List ℕ) (z n top m q′ : ℕ) (st′ : List ℕ) : Type 0 where
+  pub w₁ : List ℕ
+  pub w₂ : List ℕ
+  pub b : ℕ
+  pub j : ℕ
+  pub rest : Chain B q st a w₁ b j q′ st′
+  pub walk : Walk B q′ b w₂ z m top
+  pub whole : w ≡ w₁ ++ w₂
+  pub count : n ≡ j + m
 
--- m states of the chain are popped: they are a walk, and the rest is a chain ..
-record Within (B : Tables) (q : ℕ) (st : List ℕ) (a : ℕ) (w : List ℕ) (z top m q′ : ℕ) (st′ : List ℕ) : Type 0 where
-  w₁ : List ℕ
-  w₂ : List ℕ
-  b : ℕ
-  rest : Chain B q st a w₁ b q′ st′
-  walk : Walk B q′ b w₂ z m top
-  whole : w ≡ w₁ ++ w₂
-
--- .. or the whole chain is popped, with q and k states below it
-record Below (B : Tables) (q : ℕ) (st : List ℕ) (a : ℕ) (w : List ℕ) (z top m q′ : ℕ) (st′ : List ℕ) : Type 0 where
-  n : ℕ
-  k : ℕ
-  walk : Walk B q a w z n top
-  count : m ≡ n + suc k
-  left : drop k st ≡ q′ ∷ st′
+-- .. or the whole chain of n is popped, with its first state and k states below it
+pub record Below (st : List ℕ) (n m : ℕ) (left : List ℕ) : Type 0 where
+  pub k : ℕ
+  pub count : m ≡ n + suc k
+  pub under : drop k st ≡ left
 
 -- where a walk of one transition or more can begin: under a the state q shifts, or reduces an empty production
 pub data Opens (B : Tables) (q a : ℕ) : Type 0 where
@@ -91,10 +86,6 @@ module _ {B : Tables} where
   walk-terminal i h (shifted {t} {q₁} {q₂} z r e) = walk-terminal i (i .shifts q₁ t q₂ e .2) r
   walk-terminal i h (crossed r r′ e l g) = walk-terminal i (walk-terminal i h r′) r
 
-  pub gets-terminal : {s z a : ℕ} {st w : List ℕ} → InRange B → z < B .terminals → Gets B s z st a w → a < B .terminals
-  gets-terminal i h (arrives r) = walk-terminal i h r
-  gets-terminal i h (pops k r e l d g c) = walk-terminal i (gets-terminal i h c) r
-
   -- no walk of one transition or more begins where the action neither shifts nor reduces an empty production
   pub walk-begins : {q a z n q′ : ℕ} {w : List ℕ} → Walk B q a w z n q′ → ((n ≡ 0) × (q ≡ q′) × (a ≡ z)) ⊎ Opens B q a
   walk-begins here = inl (refl, refl, refl)
@@ -104,43 +95,100 @@ module _ {B : Tables} where
       (λ o. o)
       (walk-begins r))
 
-  chain-walk : {q a z q′ : ℕ} {w st st′ : List ℕ} → Chain B q st a w z q′ st′ → (n : ℕ) × Walk B q a w z n q′
-  chain-walk base = (0, here)
-  chain-walk (push c e) = let (n, r) = chain-walk c in (n + 1, walk-append r e)
+  -- a walk leaves a chain on every stack, and a chain is a walk
+  pub walk-chain : {q a z n q′ : ℕ} {w : List ℕ} → Walk B q a w z n q′ → (st : List ℕ) → (st′ : List ℕ) × Chain B q st a w z n q′ st′
+  walk-chain here st = (st, base)
+  walk-chain (shifted {q₁} z r e) st = let (st₁, c) = walk-chain r st in (q₁ ∷ st₁, push c (shifted z here e))
+  walk-chain (crossed {q₁} r r′ e l g) st = let (st₁, c) = walk-chain r st in (q₁ ∷ st₁, push c (crossed here r′ e l g))
 
-  pop : {q a z top q′ : ℕ} {w st stk st′ : List ℕ} (m : ℕ) → Chain B q st a w z top stk → drop m (top ∷ stk) ≡ q′ ∷ st′
-      → Within B q st a w z top m q′ st′ ⊎ Below B q st a w z top m q′ st′
-  pop {z} {top} {q′} {w} {stk} {st′} zero c e =
+  pub chain-walk : {q a z n q′ : ℕ} {w st st′ : List ℕ} → Chain B q st a w z n q′ st′ → Walk B q a w z n q′
+  chain-walk base = here
+  chain-walk (push c r) = rw (← add-one) (walk-append (chain-walk c) r)
+
+  -- it is run so, and n states lie above the first stack
+  pub chain-runs : {q a z n q′ : ℕ} {w st st′ : List ℕ} → Chain B q st a w z n q′ st′ → (u : List ℕ) → Steps B (q ∷ st) (w ++ (z ∷ u)) (q′ ∷ st′) (z ∷ u)
+  chain-runs base u = done
+  chain-runs (push {st₁} c r) u = let (u′, e) = walk-starts r u in rw (append-assoc, e) (chain-runs c u′ ⊕ rw e at (walk-pushes r st₁ u))
+
+  pub chain-under : {q a z n q′ : ℕ} {w st st′ : List ℕ} → Chain B q st a w z n q′ st′ → drop n (q′ ∷ st′) ≡ q ∷ st
+  chain-under base = refl
+  chain-under (push c r) = chain-under c
+
+  -- states popped off a chain
+  pub pop : {q a z n top q′ : ℕ} {w st stk st′ : List ℕ} (m : ℕ) → Chain B q st a w z n top stk → drop m (top ∷ stk) ≡ q′ ∷ st′
+      → Inside B q st a w z n top m q′ st′ ⊎ Below st n m (q′ ∷ st′)
+  pop {z} {n} {top} {q′} {w} {stk} {st′} zero c e =
       let i : top ≡ q′ = cc in
       let j : stk ≡ st′ = cc in
-      inl (record { w₁ = w; w₂ = []; b = z; rest = rw (i, j) at c; walk = rw i here; whole = sym (append-nil w) })
-  pop (suc k) base e = inr (record { n = 0; k = k; walk = here; count = omega arith; left = e })
+      inl (record { w₁ = w; w₂ = []; b = z; j = n; rest = rw (i, j) at c; walk = rw i here; whole = sym (append-nil w); count = omega arith })
+  pop (suc k) base e = inr (record { k = k; count = omega arith; under = e })
   pop (suc k) (push {v} c r) e = ⊎-map
-      (λ i. record { w₁ = i .w₁; w₂ = i .w₂ ++ v; b = i .b; rest = i .rest; walk = rw (← add-one) (walk-append (i .walk) r); whole = rw (i .whole, append-assoc) })
-      (λ i. record { n = i .n + 1; k = i .k; walk = walk-append (i .walk) r; count = omega arith; left = i .left })
+      (λ i. record { w₁ = i .w₁; w₂ = i .w₂ ++ v; b = i .b; j = i .j; rest = i .rest; walk = rw (← add-one) (walk-append (i .walk) r); whole = rw (i .whole, append-assoc); count = omega (arith, i .count) })
+      (λ i. record { k = i .k; count = omega (arith, i .count); under = i .under })
       (pop k c e)
 
+  -- .. as many as there are, or more
+  pub pop-short : {q a z n top : ℕ} {w st stk : List ℕ} (m : ℕ) → Chain B q st a w z n top stk → drop m (top ∷ stk) ≡ [] → Below st n m []
+  pop-short zero c e = absurd (nil≢cons (sym e))
+  pop-short (suc k) base e = record { k = k; count = omega arith; under = e }
+  pop-short (suc k) (push c r) e = let i = pop-short k c e in record { k = i .k; count = omega (arith, i .count); under = i .under }
+
+  -- ---- descents, whatever the end
+  module _ {E F : ℕ → List ℕ → ℕ → List ℕ → ℕ → Type 0} where
+    pub descends-map : {st w : List ℕ} {a : ℕ} → ((q : ℕ) (st : List ℕ) (a : ℕ) (w : List ℕ) (n : ℕ) → E q st a w n → F q st a w n) → Descends B E st a w → Descends B F st a w
+    descends-map f (arrives {q} {a} {n} {st} {w} x) = arrives (f q st a w n x)
+    descends-map f (pops k r e l d g c) = pops k r e l d g (descends-map f c)
+
+  -- an end of one kind or another
+  pub descends-some : {I : Type 0} {E : ℕ → List ℕ → ℕ → List ℕ → ℕ → Type 0} {F : I → ℕ → List ℕ → ℕ → List ℕ → ℕ → Type 0} {st w : List ℕ} {a : ℕ}
+      → ((q : ℕ) (st : List ℕ) (a : ℕ) (w : List ℕ) (n : ℕ) → E q st a w n → (i : I) × F i q st a w n) → Descends B E st a w → (i : I) × Descends B (F i) st a w
+  descends-some f (arrives {q} {a} {n} {st} {w} x) = let (i, y) = f q st a w n x in (i, arrives y)
+  descends-some f (pops k r e l d g c) = let (i, y) = descends-some f c in (i, pops k r e l d g y)
+
+  -- the first terminal is that of the word and what follows, and with tables in range it is one, where that holds of the end
+  pub descends-starts : {E : ℕ → List ℕ → ℕ → List ℕ → ℕ → Type 0} {z a : ℕ} {st w : List ℕ}
+      → ((q : ℕ) (st : List ℕ) (a : ℕ) (w : List ℕ) (n : ℕ) → E q st a w n → (u : List ℕ) → (u′ : List ℕ) × (w ++ (z ∷ u) ≡ a ∷ u′))
+      → Descends B E st a w → (u : List ℕ) → (u′ : List ℕ) × (w ++ (z ∷ u) ≡ a ∷ u′)
+  descends-starts f (arrives {q} {a} {n} {st} {w} x) u = f q st a w n x u
+  descends-starts f (pops k r e l d g c) u = let (u₂, j) = descends-starts f c u in let (u₁, i) = walk-starts r u₂ in (u₁, rw (append-assoc, j) i)
+
+  pub descends-terminal : {E : ℕ → List ℕ → ℕ → List ℕ → ℕ → Type 0} {a : ℕ} {st w : List ℕ} → InRange B
+      → ((q : ℕ) (st : List ℕ) (a : ℕ) (w : List ℕ) (n : ℕ) → E q st a w n → a < B .terminals) → Descends B E st a w → a < B .terminals
+  descends-terminal i f (arrives {q} {a} {n} {st} {w} x) = f q st a w n x
+  descends-terminal i f (pops k r e l d g c) = walk-terminal i (descends-terminal i f c) r
+
+  -- ---- to a whole stack, and to a state on top
+  pub lands-gets : {s z a : ℕ} {below st w : List ℕ} → Lands B s z below st a w → Gets B s z st a w
+  lands-gets l = descends-map (λ q st a w n c. chain-walk c) l
+
+  pub gets-lands : {s z a : ℕ} {st w : List ℕ} → Gets B s z st a w → (below : List ℕ) × Lands B s z below st a w
+  gets-lands g = descends-some (λ q st a w n r. walk-chain r st) g
+
   pub gets-starts : {s z a : ℕ} {st w : List ℕ} → Gets B s z st a w → (u : List ℕ) → (u′ : List ℕ) × (w ++ (z ∷ u) ≡ a ∷ u′)
-  gets-starts (arrives r) u = walk-starts r u
-  gets-starts (pops k r e l d g c) u = let (u₂, j) = gets-starts c u in let (u₁, i) = walk-starts r u₂ in (u₁, rw (append-assoc, j) i)
+  gets-starts g u = descends-starts (λ q st a w n r. walk-starts r) g u
 
   -- 5. from any stack, what is described is run ..
-  pub gets-runs : {s z a : ℕ} {st w : List ℕ} → Gets B s z st a w → (u : List ℕ) → (st′ : List ℕ) × Steps B st (w ++ (z ∷ u)) (s ∷ st′) (z ∷ u)
-  gets-runs (arrives {st} r) u = let i = walk-runs r st u in (i .above, i .run)
-  gets-runs (pops {st} k r e l d g c) u =
-      let (u′, f) = gets-starts c u in
+  pub lands-runs : {s z a : ℕ} {below st w : List ℕ} → Lands B s z below st a w → (u : List ℕ) → Steps B st (w ++ (z ∷ u)) (s ∷ below) (z ∷ u)
+  lands-runs (arrives c) u = chain-runs c u
+  lands-runs (pops {st} k r e l d g c) u =
+      let (u′, f) = gets-starts (lands-gets c) u in
       let i = walk-runs r st u′ in
-      let (st′, j) = gets-runs c u in
-      (st′, rw (append-assoc, f) (i .run ⊕ then (step-reduce e (rw (l, ← drop-drop, i .popped) d) g) (rw f at j)))
+      rw (append-assoc, f) (i .run ⊕ then (step-reduce e (rw (l, ← drop-drop, i .popped) d) g) (rw f at (lands-runs c u)))
+
+  pub gets-runs : {s z a : ℕ} {st w : List ℕ} → Gets B s z st a w → (u : List ℕ) → (st′ : List ℕ) × Steps B st (w ++ (z ∷ u)) (s ∷ st′) (z ∷ u)
+  gets-runs g u = let (below, l) = gets-lands g in (below, lands-runs l u)
 
   -- the input is not used up before the end
   unfed : {s s′ u : List ℕ} {z : ℕ} → Steps B s [] s′ (z ∷ u) → ⊥
   unfed (then a r) = elim a [ ]
 
   -- .. and what is run is described. The run keeps the stack a chain; a reduction that pops below the chain starts another
-  reach : {q a t top s z : ℕ} {w st stk stack x st′ u : List ℕ} → Chain B q st a w t top stk → stack ≡ top ∷ stk → Steps B stack (t ∷ x) (s ∷ st′) (z ∷ u)
-      → (v : List ℕ) × (t ∷ x ≡ v ++ (z ∷ u)) × Gets B s z (q ∷ st) a (w ++ v)
-  reach {top} {s} c i done = let j : top ≡ s = cc in ([], refl, rw append-nil (arrives (chain-walk (rw j at c) .1)))
+  reach : {q a t n top s z : ℕ} {w st stk stack x below u : List ℕ} → Chain B q st a w t n top stk → stack ≡ top ∷ stk → Steps B stack (t ∷ x) (s ∷ below) (z ∷ u)
+      → (v : List ℕ) × (t ∷ x ≡ v ++ (z ∷ u)) × Lands B s z below (q ∷ st) a (w ++ v)
+  reach {top} {s} {stk} {below} c i done =
+      let j : top ≡ s = cc in
+      let k : stk ≡ below = cc in
+      ([], refl, rw append-nil (arrives (rw (j, k) at c)))
   reach c i (then (shift {u = []} f) r) = absurd (unfed r)
   reach {top} {stk} c i (then (shift {u = t′ ∷ x′} {a = t} {s = s₁} f) r) =
       let (v, j, k) = reach (push c (shifted t′ here (next-shift B top t stk (rw i at f)))) (ap (λ (l : List ℕ). s₁ ∷ l) i) r in
@@ -148,8 +196,8 @@ module _ {B : Tables} where
   reach {top} {stk} c i (then (reduce {a = t} f) r) =
       let d = next-reduce B top t stk (rw i at f) in
       ⊎-elim
-      (λ m. let (v, j, k) = reach {w = m .w₁ ++ m .w₂} (push (m .rest) (crossed here (m .walk) (d .action) refl (d .transition))) (d .stack) r in (v, j, rw (m .whole) k))
-      (λ m. let (v, j, k) = reach base (d .stack) r in (v, j, pops (m .k) (m .walk) (d .action) (m .count) (m .left) (d .transition) k))
+      (λ m. let (v, j, k) = reach {n = suc (m .j)} {w = m .w₁ ++ m .w₂} (push (m .rest) (crossed here (m .walk) (d .action) refl (d .transition))) (d .stack) r in (v, j, rw (m .whole) k))
+      (λ m. let (v, j, k) = reach base (d .stack) r in (v, j, pops (m .k) (chain-walk c) (d .action) (m .count) (m .under) (d .transition) k))
       (pop (B .len (d .production)) c (d .left))
 
   -- an empty stack goes nowhere
@@ -157,14 +205,20 @@ module _ {B : Tables} where
   bare (then (shift {a} f) r) = clash (cc (next-empty B a))
   bare (then (reduce {a} f) r) = clash (cc (next-empty B a))
 
-  pub runs-gets : {s z : ℕ} {st st′ u : List ℕ} (w : List ℕ) → Steps B st (w ++ (z ∷ u)) (s ∷ st′) (z ∷ u) → Gets B s z st (first w z) w
+  pub runs-lands : {s z : ℕ} {st below u : List ℕ} (w : List ℕ) → Steps B st (w ++ (z ∷ u)) (s ∷ below) (z ∷ u) → Lands B s z below st (first w z) w
   unfolding first
-  runs-gets {st = []} w r = absurd (bare r)
-  runs-gets {z} {st = q ∷ st} {u} [] r = let (v, f, c) = reach base refl r in rw (append-cancel-right [] v (z ∷ u) f) c
-  runs-gets {z} {st = q ∷ st} {u} (t ∷ w) r = let (v, f, c) = reach base refl r in rw (append-cancel-right (t ∷ w) v (z ∷ u) f) c
+  runs-lands {st = []} w r = absurd (bare r)
+  runs-lands {z} {st = q ∷ st} {u} [] r = let (v, f, c) = reach base refl r in rw (append-cancel-right [] v (z ∷ u) f) c
+  runs-lands {z} {st = q ∷ st} {u} (t ∷ w) r = let (v, f, c) = reach base refl r in rw (append-cancel-right (t ∷ w) v (z ∷ u) f) c
 
-  pub gets-iff : {s z : ℕ} {st : List ℕ} (w : List ℕ) → Gets B s z st (first w z) w ↔ ((st′ : List ℕ) × Steps B st (w ++ (z ∷ [])) (s ∷ st′) (z ∷ []))
-  gets-iff w = (λ c. gets-runs c [], λ r. runs-gets w (r .1))
+  pub runs-gets : {s z : ℕ} {st below u : List ℕ} (w : List ℕ) → Steps B st (w ++ (z ∷ u)) (s ∷ below) (z ∷ u) → Gets B s z st (first w z) w
+  runs-gets w r = lands-gets (runs-lands w r)
+
+  pub lands-iff : {s z : ℕ} {below st : List ℕ} (w : List ℕ) → Lands B s z below st (first w z) w ↔ Steps B st (w ++ (z ∷ [])) (s ∷ below) (z ∷ [])
+  lands-iff w = (λ l. lands-runs l [], λ r. runs-lands w r)
+
+  pub gets-iff : {s z : ℕ} {st : List ℕ} (w : List ℕ) → Gets B s z st (first w z) w ↔ ((below : List ℕ) × Steps B st (w ++ (z ∷ [])) (s ∷ below) (z ∷ []))
+  gets-iff w = (λ g. gets-runs g [], λ r. runs-gets w (r .1))
 
   -- nothing lies below a stack of one state
   gets-walk : {s z q a : ℕ} {w : List ℕ} → Gets B s z (q ∷ []) a w → (n : ℕ) × Walk B q a w z n s
@@ -180,14 +234,3 @@ module _ {B : Tables} where
 
   pub reaches-iff : {w : List ℕ} {z s : ℕ} → InRange B → Reaches B w z s ↔ ((n : ℕ) × Walk B 0 (first w z) w z n s)
   reaches-iff i = (λ r. reaches-walk r, λ r. walk-reaches i (r .1))
-
-  -- where the machine stands after u, whatever comes next: what the words that begin with u reach is what is reached from that stack
-  pub reaches-after : {st : List ℕ} {z s : ℕ} → InRange B → (u : List ℕ) → ((rest : List ℕ) → Steps B (0 ∷ []) (u ++ rest) st rest) → (x : ℕ) (v : List ℕ)
-      → Reaches B (u ++ (x ∷ v)) z s ↔ Gets B s z st x (x ∷ v)
-  unfolding first
-  reaches-after {z} i u t x v = (
-    λ r. runs-gets (x ∷ v) (steps-after (t ((x ∷ v) ++ (z ∷ []))) (rw append-assoc at (r .run)) (omega (arith, length-append v (z ∷ [])))),
-    λ g. let (below, r) = gets-runs g [] in
-        let run = rw (← append-assoc) at (t ((x ∷ v) ++ (z ∷ [])) ⊕ r) in
-        record { terminals = taken-terminals i (u ++ (x ∷ v)) run; below = below; run = run },
-  )
