@@ -59,16 +59,17 @@ module _ {B : Tables} {s z : ℕ} {buffer left : List ℕ} {r : Found} where
   answered-fits a = rw (a .told, a .front) (outcome-fits B s z (a .outcome) buffer (a .right))
 
   pub answered-line : {lent now : List ℕ} {at next : ℕ} → Answered B s z buffer r left
-      → Put ((decimal s ++ 32 ∷ decimal z) ++ (spaced (words r left) ++ 10 ∷ [])) lent at now next → Listed B s z lent at now next
+      → Put ((decimal s ++ 32 ∷ decimal z) ++ (spaced (words r left) ++ 10 ∷ [])) lent at now next → Listed B s z buffer lent at left now next
   answered-line {lent} {now} {at} {next} a p =
       let e = pair-words (decimal s) (decimal z) (words r left) ∙ ap (λ (ws : List (List ℕ)). line (decimal s) (decimal z ∷ ws)) (answered-words a) in
-      record { outcome = a .outcome; right = a .right; put = subst (λ (l : List ℕ). Put l lent at now next) e p }
+      record { outcome = a .outcome; right = a .right; front = a .front; put = subst (λ (l : List ℕ). Put l lent at now next) e p }
 
 -- at most one line is right
-pub line-one : {B : Tables} {s z at next next′ : ℕ} {lent left left′ : List ℕ} → Listed B s z lent at left next → Listed B s z lent at left′ next′
-    → (left ≡ left′) × (next ≡ next′)
-line-one {B} {s} {z} {at} {lent} x y =
+pub line-one : {B : Tables} {s z at next next′ : ℕ} {buffer lent filled filled′ left left′ : List ℕ} → Listed B s z buffer lent at filled left next
+    → Listed B s z buffer lent at filled′ left′ next′ → (filled ≡ filled′) × (left ≡ left′) × (next ≡ next′)
+line-one {B} {s} {z} {at} {buffer = buffer} {lent = lent} x y =
     let same = answer-one plain (λ a. a) B s z (x .outcome) (y .outcome) (x .right) (y .right) in (
+      x .front ∙ ap (λ (o : Outcome). over (sentence o) buffer) same ∙ sym (y .front),
       x .put .stored ∙ ap (λ (o : Outcome). sets lent at (pairLine s z o)) same ∙ sym (y .put .stored),
       x .put .after ∙ ap (λ (o : Outcome). at + length (pairLine s z o)) same ∙ sym (y .put .after),
     )
