@@ -19,3 +19,5 @@ pub mod Pair
 pub mod PairLaws
 pub mod FindLaws
 pub mod AgreementLaws
+pub mod Failing
+pub mod FailingLaws

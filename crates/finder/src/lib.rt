@@ -2,6 +2,7 @@
 mod admission;
 mod choice;
 mod choosing;
+mod failing;
 mod measure;
 mod one_pair;
 mod pair;
@@ -22,6 +23,11 @@ pub use whole_map::map;
 pub use admission::clear;
 pub use admission::work_cells;
 pub use prepared::answer;
+
+// .. and which test many: `mask_of` reads a state's set off the distances from the start once, and `pair_fails` tests each pair by it.
+pub use failing::is_error;
+pub use failing::pair_fails;
+pub use reached::mask_of;
 
 // What the finder answers for one pair; a sentence stands at the front of the lent buffer.
 pub enum Found {

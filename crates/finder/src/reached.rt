@@ -16,7 +16,7 @@ use sets::size;
 use walk::UNREACHED;
 
 // The reached lookaheads of state q, long ones too.
-fn mask_of(dist: &[u16], t: usize, q: usize) -> u32
+pub fn mask_of(dist: &[u16], t: usize, q: usize) -> u32
     requires { ⌜ (length (now dist) ≡ 4096) × (q < 128) × (t ≤ 32) ⌝ }
     ensures { λ r. ⌜ r ≡ maskIn (now (dist .entry)) t q ⌝ }
 {

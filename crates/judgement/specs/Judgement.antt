@@ -8,15 +8,14 @@ use lib.ListN.{length, replicate}
 use Rattle.number.specs.Lent.{over}
 use Rattle.number.specs.declared.Refusal.{Refusal}
 use Rattle.book.specs.Tables.{Tables, tablesOf, sizesOf}
-use Rattle.book.specs.declared.Action.the-variants.{Error as Fail}
 use Rattle.book.specs.declared.Sizes.{Sizes}
-use Rattle.machine.specs.Machine.{Reaches}
 use Rattle.machine.specs.Run.{runs, stopOf}
 use Rattle.machine.specs.declared.Ending.{Ending}
 use Rattle.machine.specs.declared.Ending.the-variants.{Accepted, Error, Broken, Passed, Deep, Spinning}
 use Rattle.lists.specs.Entry.{sentence}
 use Rattle.lists.specs.List.{Listed, entries, refused, listIn}
 use Rattle.lists.specs.declared.Entry.{Entry}
+use Rattle.finder.specs.Failing.{FailingPair, Decides}
 use Rattle.finder.specs.Finder.{workCells, cleared}
 use Rattle.judgement.specs.declared.Judgement.{Judgement}
 use Rattle.judgement.specs.declared.Judgement.the-variants.{Wrong, Repeat, Uncovered, Complete, Refused}
@@ -65,21 +64,13 @@ course B bytes i states (e ∷ es) =
     entered i (length (sentence bytes e)) states (runOf B bytes e) (λ more. course B bytes (suc i) more es)
 
 -- ---- the states
--- 'A failing pair is a reached pair, long or not, whose action is error': a sequence of any length reaches it, without limits
-pub record FailingPair (B : Tables) (s z : ℕ) : Type 0 where
-  pub terminal : z < B .terminals
-  pub word : List ℕ
-  pub reached : Reaches B word z s
-  pub error : B .act s z ≡ Fail
-
 -- a state 'that has a failing pair'
 abbrev pub Fails : Tables → ℕ → Type 0
 Fails B s = (z : ℕ) × FailingPair B s z
 
--- which states have one: every function that decides it has the same values
-pub record Decides (B : Tables) (fails : ℕ → Bool) : Type 0 where
-  pub some : (s : ℕ) → s < B .states → fails s ≡ true → Fails B s
-  pub none : (s : ℕ) → s < B .states → fails s ≡ false → ¬ Fails B s
+-- which states have one
+abbrev pub DecidesFails : Tables → (ℕ → Bool) → Type 0
+DecidesFails B fails = (s : ℕ) → s < B .states → Decides (fails s) (Fails B s)
 
 -- 'uncovered, with the lowest state' that lacks an entry, of k states from s on, 'or else complete'
 unfoldable pub lowest : (ℕ → Bool) → ℕ → ℕ → Judgement
@@ -93,7 +84,7 @@ uncovered fails states s = fails s && not (among s states)
 -- the judgement of entries that took this course: the first fault; 'Without a fault it is uncovered .. or else complete'
 pub data Judged (B : Tables) (c : Course) : Judgement → Type 0 where
   faulty : (j : Judgement) → c ≡ fault j → Judged B c j
-  faultless : (states : List ℕ) (fails : ℕ → Bool) → c ≡ clean states → Decides B fails → Judged B c (lowest (uncovered fails states) (B .states) 0)
+  faultless : (states : List ℕ) (fails : ℕ → Bool) → c ≡ clean states → DecidesFails B fails → Judged B c (lowest (uncovered fails states) (B .states) 0)
 
 -- ---- the call
 -- 'Any other call that needs work or stack cells is lent at least as many as the finder or a run': '13 work or stack cells too few' after the

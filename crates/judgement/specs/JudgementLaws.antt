@@ -15,20 +15,11 @@ use Rattle.machine.specs.declared.Ending.the-variants.{Accepted, Error, Broken,
 use Rattle.machine.specs.declared.Stop.{Stop}
 use Rattle.lists.specs.Entry.{sentence}
 use Rattle.lists.specs.declared.Entry.{Entry}
+use Rattle.finder.specs.FailingLaws.{decides-one}
 use Rattle.judgement.specs.CoverageLaws.{lowest-same}
-use Rattle.judgement.specs.Judgement.{runOf, isRight, stateOf, among, Course, fault, clean, course, Decides, uncovered, Judged, faulty, faultless, Judges, refuses, judges}
+use Rattle.judgement.specs.Judgement.{runOf, isRight, stateOf, among, Course, fault, clean, course, uncovered, Judged, faulty, faultless, Judges, refuses, judges}
 use Rattle.judgement.specs.declared.Judgement.{Judgement}
 use Rattle.judgement.specs.declared.Judgement.the-variants.{Wrong, Repeat}
-
--- two functions that decide which states fail agree
-decides-same : {B : Tables} {f g : ℕ → Bool} → Decides B f → Decides B g → (s : ℕ) → s < B .states → f s ≡ g s
-decides-same {f} {g} x y s h = go (f s) refl (g s) refl
-  where
-    go : (a : Bool) → f s ≡ a → (b : Bool) → g s ≡ b → a ≡ b
-    go true e true k = refl
-    go false e false k = refl
-    go true e false k = absurd (y .none s h k (x .some s h e))
-    go false e true k = absurd (x .none s h e (y .some s h k))
 
 pub one-judgement : {B : Tables} {c : Course} {j k : Judgement} → Judged B c j → Judged B c k → j ≡ k
 one-judgement (faulty j e) (faulty k f) = cc
@@ -36,7 +27,7 @@ one-judgement (faulty j e) (faultless states fails f x) = absurd (clash cc)
 one-judgement (faultless states fails f x) (faulty k e) = absurd (clash cc)
 one-judgement {B} (faultless states f e x) (faultless others g k y) =
     let same : states ≡ others = cc in
-    rw same (lowest-same (uncovered f others) (uncovered g others) (B .states) 0 (λ s h. rw (decides-same x y s (omega arith))))
+    rw same (lowest-same (uncovered f others) (uncovered g others) (B .states) 0 (λ s h. rw (decides-one (x s (omega arith)) (y s (omega arith)))))
 
 -- .. and so what `judge` answers is one
 pub one-answer : {cells bytes work stack w s v t : List ℕ} {j k : Judgement} → Judges cells bytes work stack j w s → Judges cells bytes work stack k v t → j ≡ k

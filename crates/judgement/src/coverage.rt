@@ -6,38 +6,27 @@ ghost use Rattle.book.specs.Tables.{tablesOf};
 ghost use Rattle.book.specs.TablesLaws.{Holds};
 ghost use Rattle.layers.specs.Crossing.{room};
 ghost use Rattle.crossings.specs.Crossings.{Beyond};
-ghost use Rattle.judgement.specs.Coverage.{failsAt, failsIn, lacksIn, Covered};
+ghost use Rattle.judgement.specs.Coverage.{stateFails, lacksIn, Covered};
 ghost use Rattle.judgement.specs.Judgement.{lowest};
 use crate::Judgement;
-use book::Action;
 use book::Sizes;
 use crossings::crossings;
 use distances::from_start;
+use finder::mask_of;
+use finder::pair_fails;
 use walk::UNREACHED;
 
-// Whether the pair is reached and its action is error.
-fn fails_at(cells: &[u16], d: Sizes, dist: &[u16; 4096], q: usize, z: usize) -> bool
-    requires { ⌜ Holds d (now cells) ⌝ }
-    requires { ⌜ (q < d .s) × (z < d .t) ⌝ }
-    ensures { λ r. ⌜ r ≡ failsAt (tablesOf (now (cells .entry))) (now (dist .entry)) q z ⌝ }
-{
-    match book::action_at(cells, d, q, z) {
-        Action::Error => dist[q * 32 + z] < UNREACHED,
-        Action::Accept => false,
-        Action::Shift(_) => false,
-        Action::Reduce(_) => false,
-    }
-}
-
+// Whether the state has a failing pair.
 fn fails(cells: &[u16], d: Sizes, dist: &[u16; 4096], q: usize) -> bool
     requires { ⌜ Holds d (now cells) ⌝ }
     requires { ⌜ q < d .s ⌝ }
-    ensures { λ r. ⌜ r ≡ failsIn (tablesOf (now (cells .entry))) (now (dist .entry)) (d .t) q ⌝ }
+    ensures { λ r. ⌜ r ≡ stateFails (now (cells .entry)) (now (dist .entry)) (d .t) q ⌝ }
 {
     let t = d.t;
+    let mask = mask_of(dist, t, q);
     let mut z: usize = 0;
     while z < t {
-        if fails_at(cells, d, dist, q, z) {
+        if pair_fails(cells, d, mask, q, z) {
             return true;
         }
         z += 1;
@@ -49,7 +38,7 @@ fn fails(cells: &[u16], d: Sizes, dist: &[u16; 4096], q: usize) -> bool
 fn lacks(cells: &[u16], d: Sizes, dist: &[u16; 4096], flags: &[u8; 128], q: usize) -> bool
     requires { ⌜ Holds d (now cells) ⌝ }
     requires { ⌜ q < d .s ⌝ }
-    ensures { λ r. ⌜ r ≡ lacksIn (failsIn (tablesOf (now (cells .entry))) (now (dist .entry)) (d .t)) (now (flags .entry)) q ⌝ }
+    ensures { λ r. ⌜ r ≡ lacksIn (stateFails (now (cells .entry)) (now (dist .entry)) (d .t)) (now (flags .entry)) q ⌝ }
 {
     if flags[q] != 0 {
         return false;
@@ -59,7 +48,7 @@ fn lacks(cells: &[u16], d: Sizes, dist: &[u16; 4096], flags: &[u8; 128], q: usiz
 
 fn lowest_lacking(cells: &[u16], d: Sizes, dist: &[u16; 4096], flags: &[u8; 128]) -> Judgement
     requires { ⌜ Holds d (now cells) ⌝ }
-    ensures { λ r. ⌜ r ≡ lowest (lacksIn (failsIn (tablesOf (now (cells .entry))) (now (dist .entry)) (d .t)) (now (flags .entry))) (d .s) 0 ⌝ }
+    ensures { λ r. ⌜ r ≡ lowest (lacksIn (stateFails (now (cells .entry)) (now (dist .entry)) (d .t)) (now (flags .entry))) (d .s) 0 ⌝ }
 {
     let s = d.s;
     let mut q: usize = 0;

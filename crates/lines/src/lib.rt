@@ -5,7 +5,6 @@ mod opening;
 mod put;
 
 pub use counts::header_counts;
-pub use counts::is_error;
 pub use line::put_header;
 pub use line::put_pair;
 pub use line::put_refusal;

@@ -1,4 +1,4 @@
--- `judgement::coverage::cover` meets its contract: the distances from the start decide which states fail. Assumes nothing.
+-- `judgement::coverage::cover` meets its contract: the sets of reached lookaheads decide which states fail. Assumes nothing.
 use Rattle.judgement.specs.CoverageLaws.{start-covered}
 use borrow.Author.Needs.{needs}
 use Rattle.judgement.proofs.coverage.cover.Statement.{statement}

@@ -3,27 +3,27 @@ use native.Mathlib.Nat.{sub-zero}
 use mathlib.Core.Path.{_≡_, sym, _∙_}
 use native.Mathlib.Omega.{arith}
 use Prim.Native.Nat.{_-_, _≤_}
-use Rattle.book.specs.Tables.{tablesOf}
-use Rattle.judgement.specs.Coverage.{failsAt, some, failsIn}
+use Rattle.finder.specs.FailingLaws.{failsIn}
+use Rattle.judgement.specs.Coverage.{some, stateFails}
 use Rattle.judgement.specs.CoverageLaws.{some-here, some-on, some-done}
 use borrow.Author.Needs.{needs}
 use Rattle.judgement.proofs.coverage.fails.Statement.{statement}
 use Rattle.judgement.proofs.coverage.fails.Tie as tie
 
 abbrev Inv-loop : tie.InvT-loop
-Inv-loop cells d dist q t z₀ z = (z ≤ d .t) × (failsIn (tablesOf cells) dist (d .t) q ≡ some (failsAt (tablesOf cells) dist q) (d .t - z) z)
+Inv-loop cells d dist q t mask z₀ z = (z ≤ d .t) × (stateFails cells dist (d .t) q ≡ some (failsIn cells dist (d .t) q) (d .t - z) z)
 
 abbrev μ-loop : tie.MeasureT-loop
-μ-loop cells d dist q t z₀ z = d .t - z
+μ-loop cells d dist q t mask z₀ z = d .t - z
 
 loop-holds : tie.Need-loop-holds Inv-loop μ-loop
 loop-holds c = (omega arith, rw sub-zero)
 
 returns : tie.Need-returns Inv-loop μ-loop
-returns c = sym (c .before .before .before .loop .inv .1 ∙ some-here _ _ _ (c .before .before .loop-test .taken) (sym (c .before .fails-at .ensures) ∙ c .if1 .taken))
+returns c = sym (c .before .before .before .loop .inv .1 ∙ some-here _ _ _ (c .before .before .loop-test .taken) (sym (rw (c .before .before .before .before .mask-of .ensures) at (c .before .pair-fails .ensures)) ∙ c .if1 .taken))
 
 loop-again : tie.Need-loop-again Inv-loop μ-loop
-loop-again c = (omega arith, c .before .before .before .loop .inv .1 ∙ some-on _ _ _ (c .before .before .loop-test .taken) (sym (c .before .fails-at .ensures) ∙ c .if1 .left))
+loop-again c = (omega arith, c .before .before .before .loop .inv .1 ∙ some-on _ _ _ (c .before .before .loop-test .taken) (sym (rw (c .before .before .before .before .mask-of .ensures) at (c .before .pair-fails .ensures)) ∙ c .if1 .left))
 
 returns-2 : tie.Need-returns-2 Inv-loop μ-loop
 returns-2 c = sym (c .before .loop .inv .1 ∙ some-done _ _ _ (c .loop-test .left))
@@ -34,6 +34,7 @@ fails-spec =
     (tie.spec
     Inv-loop
     μ-loop
+    (λ c κs. search needs)
     loop-holds
     (λ c κs. search needs)
     returns

@@ -3,8 +3,7 @@ use native.Mathlib.Nat.{sub-zero}
 use mathlib.Core.Path.{_≡_, sym, _∙_}
 use native.Mathlib.Omega.{arith}
 use Prim.Native.Nat.{_-_, _≤_}
-use Rattle.book.specs.Tables.{tablesOf}
-use Rattle.judgement.specs.Coverage.{failsIn, lacksIn}
+use Rattle.judgement.specs.Coverage.{stateFails, lacksIn}
 use Rattle.judgement.specs.CoverageLaws.{lowest-here, lowest-on, lowest-done}
 use Rattle.judgement.specs.Judgement.{lowest}
 use borrow.Author.Needs.{needs}
@@ -12,7 +11,7 @@ use Rattle.judgement.proofs.coverage.lowest_lacking.Statement.{statemen
 use Rattle.judgement.proofs.coverage.lowest_lacking.Tie as tie
 
 abbrev Inv-loop : tie.InvT-loop
-Inv-loop cells d dist flags s q₀ q = (q ≤ d .s) × (lowest (lacksIn (failsIn (tablesOf cells) dist (d .t)) flags) (d .s) 0 ≡ lowest (lacksIn (failsIn (tablesOf cells) dist (d .t)) flags) (d .s - q) q)
+Inv-loop cells d dist flags s q₀ q = (q ≤ d .s) × (lowest (lacksIn (stateFails cells dist (d .t)) flags) (d .s) 0 ≡ lowest (lacksIn (stateFails cells dist (d .t)) flags) (d .s - q) q)
 
 abbrev μ-loop : tie.MeasureT-loop
 μ-loop cells d dist flags s q₀ q = d .s - q

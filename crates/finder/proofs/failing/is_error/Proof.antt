@@ -1,8 +1,8 @@
--- `lines::counts::is_error` meets its contract: the action is one of four. Assumes nothing.
+-- `finder::failing::is_error` meets its contract: the action is one of four. Assumes nothing.
 use mathlib.Core.Path.{refl}
 use borrow.Author.Needs.{needs}
-use Rattle.lines.proofs.counts.is_error.Statement.{statement}
-use Rattle.lines.proofs.counts.is_error.Tie as tie
+use Rattle.finder.proofs.failing.is_error.Statement.{statement}
+use Rattle.finder.proofs.failing.is_error.Tie as tie
 
 returns : tie.Need-returns
 returns c = rw (← c .before .before .action-at .ensures, c .enum-told .given .1) refl
