@@ -5,3 +5,4 @@ pub mod ListLaws
 pub mod NthLaws
 pub mod Reading
 pub mod ReadingLaws
+pub mod RefusalLaws

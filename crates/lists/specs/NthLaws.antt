@@ -5,8 +5,7 @@ use Prim.Native.Nat.{ℕ, suc, _+_, _-_, _≤_, _<_}
 use native.Mathlib.Omega.{arith}
 use Rattle.number.specs.declared.Refusal.{Refusal}
 use Rattle.lists.specs.List.{Listed, entries, refused, listIn, listing, nextAt, entryOf, nthIn}
-use Rattle.lists.specs.Reading.{Holds, Stands}
-use Rattle.lists.specs.ReadingLaws.{holds-none, holds-next, stands-next, listed-holds}
+use Rattle.lists.specs.ReadingLaws.{Holds, holds-none, holds-next, listed-holds}
 use Rattle.lists.specs.declared.Entry.{Entry}
 use Rattle.lists.specs.declared.Listing.the-variants.{Entries, Refused as Unlisted}
 use Rattle.lists.specs.declared.Next.the-variants.{Found as Given, None}
@@ -22,7 +21,6 @@ pub record Ahead (bytes : List ℕ) (k i at left : ℕ) (es : List Entry) : Type
 
 -- i entries are passed, whichever the list holds
 pub record Skipped (bytes : List ℕ) (first count k i at left : ℕ) : Type 0 where
-  pub stands : Stands bytes at left
   pub ahead : (es : List Entry) → Holds bytes (record { at = first; left = count }) es → Ahead bytes k i at left es
 
 -- one more of those that stand there
@@ -39,17 +37,14 @@ more-ahead bytes k i at left e rest l f es a = by-entries (a .xs) (a .holds) (a 
         record { xs = xs; holds = rw same at (o .holds); same = rw step at g }
 
 module _ {bytes : List ℕ} {first count k : ℕ} where
-  pub skipped-none : Stands bytes first count → Skipped bytes first count k 0 first count
-  skipped-none s =
+  pub skipped-none : Skipped bytes first count k 0 first count
+  skipped-none =
       let z : k - 0 ≡ k = omega arith in
-      record { stands = s; ahead = λ es h. record { xs = es; holds = h; same = rw z } }
+      record { ahead = λ es h. record { xs = es; holds = h; same = rw z } }
 
   pub skipped-more : {i at left : ℕ} {e : Entry} {rest : Rest} → Skipped bytes first count k i at left → i < k → nextAt bytes at left ≡ Given e rest
       → Skipped bytes first count k (i + 1) (rest .at) (rest .left)
-  skipped-more {i} {at} {left} {e} {rest} s l f = record {
-    stands = stands-next bytes at left e rest (s .stands) f .0;
-    ahead = λ es h. more-ahead bytes k i at left e rest l f es (s .ahead es h);
-  }
+  skipped-more {i} {at} {left} {e} {rest} s l f = record { ahead = λ es h. more-ahead bytes k i at left e rest l f es (s .ahead es h) }
 
   pub skipped-stop : {i at left : ℕ} → Skipped bytes first count k i at left → nextAt bytes at left ≡ None
       → (es : List Entry) → Holds bytes (record { at = first; left = count }) es → Missing ≡ entryOf es k

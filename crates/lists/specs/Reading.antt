@@ -1,33 +1,39 @@
--- A reader over a checked list: the rests of the list that it stands on, and what following it gives. Assumes nothing.
-use mathlib.Core.Path.{_≡_}
-use mathlib.Core.List.{List, [], _∷_}
-use Prim.Native.Nat.{ℕ, zero, suc, _≤_}
-use lib.ListN.{length}
-use Rattle.lists.specs.List.{entries, entriesAt, nextAt}
-use Rattle.lists.specs.declared.Entry.{Entry}
+-- A reader over a list: what starting it gives, and what one turn of it gives and leaves. Assumes nothing.
+use mathlib.Core.List.{List}
+use Prim.Native.Nat.{ℕ}
+use denote.Ref.{RefT, now}
+use Rattle.lists.specs.List.{listIn, listing, nextAt}
+use Rattle.lists.specs.declared.Given.{Given}
+use Rattle.lists.specs.declared.Given.the-variants.{Found as One, None as Nothing}
+use Rattle.lists.specs.declared.Listing.{Listing}
+use Rattle.lists.specs.declared.Listing.the-variants.{Entries, Refused}
 use Rattle.lists.specs.declared.Next.{Next}
 use Rattle.lists.specs.declared.Next.the-variants.{Found, None}
-use Rattle.lists.specs.declared.Rest.{Rest}
+use Rattle.lists.specs.declared.Opened.{Opened}
+use Rattle.lists.specs.declared.Reader.{Reader}
+use Rattle.lists.specs.declared.Turn.{Turn}
 
--- an entry and those after it
-abbrev pub onto : Next → (Rest → List Entry) → List Entry
-onto None more = []
-onto (Found e rest) more = e ∷ more rest
+-- 'checked whole when it starts': where the first entry begins and how many there are, with 0 for no refusal; or none, and the refusal
+abbrev pub opened : Listing → Opened
+opened (Entries rest) = record { at = rest .at; left = rest .left; number = 0; place = 0 }
+opened (Refused r) = record { at = 0; left = 0; number = r .number; place = r .place }
 
--- what k turns of a reader give from a rest of the list on, 'one after another', up to none
-unfoldable pub turns : List ℕ → ℕ → Rest → List Entry
-turns bytes zero rest = []
-turns bytes (suc k) rest = onto (nextAt bytes (rest .at) (rest .left)) (λ more. turns bytes k more)
+-- 'A reader over a list' that stands there
+abbrev pub readerOn : RefT (List ℕ) → Opened → Reader
+readerOn list o = record { list = list; at = o .at; left = o .left; number = o .number; place = o .place }
 
--- the rest of a list that was checked against a book of t terminals: the entries es stand there, and nothing after
-pub record Holds (bytes : List ℕ) (rest : Rest) (es : List Entry) : Type 0 where
-  pub t : ℕ
-  pub few : t ≤ 32
-  pub end : ℕ
-  pub ahead : entriesAt t bytes (rest .left) (rest .at) ≡ entries es end
-  pub closed : length bytes ≤ end
+-- the reader that `start` answers, over a list against the book in the cells
+abbrev pub startOf : List ℕ → RefT (List ℕ) → Reader
+startOf cells list = readerOn list (opened (listing (now list) (listIn cells (now list))))
 
--- where a reader may stand: 'over a list, checked whole when it starts'
-pub record Stands (bytes : List ℕ) (at left : ℕ) : Type 0 where
-  pub es : List Entry
-  pub holds : Holds bytes (record { at = at; left = left }) es
+-- 'gives its entries one after another and says how many remain; after the last it gives none', and stays where it is
+abbrev pub turned : ℕ → ℕ → Next → Turn
+turned at left None = record { given = Nothing; at = at; left = left }
+turned at left (Found e rest) = record { given = One e; at = rest .at; left = rest .left }
+
+abbrev pub turnOf : Reader → Turn
+turnOf r = turned (r .at) (r .left) (nextAt (now (r .list)) (r .at) (r .left))
+
+-- the reader after one turn
+abbrev pub moved : Reader → Reader
+moved r = record { list = r .list; at = turnOf r .at; left = turnOf r .left; number = r .number; place = r .place }

@@ -1,26 +1,44 @@
--- A reader on a checked list gives its entries one after another, says how many remain, and gives none after the last. Assumes nothing.
+-- The reader of an accepted list gives its entries one after another, then none for ever, and says how many remain; that of a refused list gives
+-- none, and has the refusal. Assumes nothing.
 use mathlib.Core.Path.{_≡_, refl, sym, _∙_, ap}
 use mathlib.Core.List.{List, [], _∷_}
 use Prim.Native.Nat.{ℕ, zero, suc, _+_, _-_, _≤_, _<_}
 use native.Mathlib.Omega.{arith}
-use native.Mathlib.Decide.{decLt}
+use native.Mathlib.Decide.{decLt, ℕ-discrete}
 use borrow.Author.Tests.{lt-ltb, le-ltb, eq-eqb, ne-eqb}
-use lib.ListN.{length, take}
+use lib.ListN.{length}
+use denote.Ref.{RefT, now}
 use Rattle.number.specs.Number.{numberAt}
 use Rattle.number.specs.declared.Cursor.{Cursor}
 use Rattle.number.specs.declared.Number.{Number}
 use Rattle.number.specs.declared.Number.the-variants.{Value, Refused}
+use Rattle.number.specs.declared.Refusal.{Refusal}
 use Rattle.book.specs.Book.{Row, read, refused as unread, admitted, ofCells, checked, cellAt}
 use Rattle.book.specs.BookLaws.{readable}
 use Rattle.book.specs.Tables.{sizesOf}
+use Rattle.lists.specs.Entry.{entryAt}
 use Rattle.lists.specs.EntryLaws.{admitted-found, entry-wider}
-use Rattle.lists.specs.List.{Listed, entries, refused, entriesAt, closed, countFault, listOf, against, listIn, after, listing, nextAt}
+use Rattle.lists.specs.List.{Listed, entries, refused, entriesAt, closed, countFault, listOf, against, listIn, after, listing, given, nextAt}
 use Rattle.lists.specs.ListLaws.{entries-front, entries-count, refused-not-entries}
-use Rattle.lists.specs.Reading.{turns, Holds, Stands}
+use Rattle.lists.specs.Reading.{opened, readerOn, startOf, turnOf, moved}
+use Rattle.lists.specs.RefusalLaws.{refusal-numbered}
 use Rattle.lists.specs.declared.Entry.{Entry}
-use Rattle.lists.specs.declared.Listing.the-variants.{Entries}
-use Rattle.lists.specs.declared.Next.the-variants.{Found as Given, None}
+use Rattle.lists.specs.declared.Given.{Given}
+use Rattle.lists.specs.declared.Given.the-variants.{Found as One, None as Nothing}
+use Rattle.lists.specs.declared.Listing.the-variants.{Entries, Refused as Unlisted}
+use Rattle.lists.specs.declared.Next.the-variants.{Found, None}
+use Rattle.lists.specs.declared.Reader.{Reader}
 use Rattle.lists.specs.declared.Rest.{Rest}
+use Rattle.lists.specs.declared.Step.{Step}
+use Rattle.lists.specs.declared.Step.the-variants.{Found as Stepped, Refused as Faulty}
+
+-- the rest of a list that was checked against a book of t terminals: the entries es stand there, and nothing after
+pub record Holds (bytes : List ℕ) (rest : Rest) (es : List Entry) : Type 0 where
+  pub t : ℕ
+  pub few : t ≤ 32
+  pub end : ℕ
+  pub ahead : entriesAt t bytes (rest .left) (rest .at) ≡ entries es end
+  pub closed : length bytes ≤ end
 
 module _ (bytes : List ℕ) where
   -- how many remain
@@ -35,7 +53,7 @@ module _ (bytes : List ℕ) where
   -- the next, and the rest after it
   pub record Onward (rest : Rest) (e : Entry) (es : List Entry) : Type 0 where
     pub more : Rest
-    pub gives : nextAt bytes (rest .at) (rest .left) ≡ Given e more
+    pub gives : nextAt bytes (rest .at) (rest .left) ≡ Found e more
     pub holds : Holds bytes more es
 
   pub holds-next : (rest : Rest) (e : Entry) (es : List Entry) → Holds bytes rest (e ∷ es) → Onward rest e es
@@ -51,15 +69,6 @@ module _ (bytes : List ℕ) where
         gives = rw (ne-eqb (rest .left) 0 (omega (arith, k)), wide, i);
         holds = record { t = h .t; few = h .few; end = h .end; ahead = rw j at (f .onward); closed = h .closed };
       }
-
-  -- k turns give the first k entries
-  pub holds-turns : (k : ℕ) (rest : Rest) (es : List Entry) → Holds bytes rest es → turns bytes k rest ≡ take k es
-  unfolding turns
-  holds-turns zero rest es h = refl
-  holds-turns (suc k) rest [] h = rw (holds-none rest h)
-  holds-turns (suc k) rest (e ∷ es) h =
-      let o = holds-next rest e es h in
-      rw (o .gives) (ap (λ (l : List Entry). e ∷ l) (holds-turns k (o .more) es (o .holds)))
 
 -- ---- the start: the rest that `check_list` answers holds the list's entries
 module _ (bytes : List ℕ) (es : List Entry) (end : ℕ) where
@@ -106,34 +115,91 @@ module _ (bytes : List ℕ) (es : List Entry) (end : ℕ) where
           let small = readable (cellAt cells) (length cells) (sizesOf out) (ap checked f) .small in
           list-holds (sizesOf out .t) (small .terminals) g
 
-  -- so k turns from there give the first k entries of the list
-  pub listed-turns : (cells : List ℕ) → listIn cells bytes ≡ entries es end → (rest : Rest) → listing bytes (listIn cells bytes) ≡ Entries rest
-      → (k : ℕ) → turns bytes k rest ≡ take k es
-  listed-turns cells e rest f k =
-      let (start, is, holds) = listed-holds cells e in
-      let same : start ≡ rest = cc in
-      holds-turns bytes k rest es (rw same at holds)
+-- ---- one turn
+module _ (bytes : List ℕ) (at : ℕ) where
+  pub none-left : nextAt bytes at 0 ≡ None
+  unfolding nextAt
+  none-left = refl
 
--- ---- where a reader stands
-module _ (bytes : List ℕ) where
-  pub stands-start : (cells : List ℕ) (rest : Rest) → listing bytes (listIn cells bytes) ≡ Entries rest → Stands bytes (rest .at) (rest .left)
-  stands-start cells rest e = by-list (listIn cells bytes) refl e
+  -- what is given does not remain
+  pub next-fewer : (left : ℕ) (e : Entry) (rest : Rest) → nextAt bytes at left ≡ Found e rest → rest .left < left
+  unfolding nextAt
+  next-fewer left e rest f = go (ℕ-discrete left 0)
     where
-      by-list : (l : Listed) → listIn cells bytes ≡ l → listing bytes l ≡ Entries rest → Stands bytes (rest .at) (rest .left)
-      by-list (refused r) f g = absurd (let z : _≡_ {A = ℕ} 0 1 = cc in omega arith)
-      by-list (entries es end) f g =
-          let (start, is, holds) = listed-holds bytes es end cells f in
-          let same : start ≡ rest = cc in
-          record { es = es; holds = rw same at holds }
+      by-step : (s : Step) → ¬ (left ≡ 0) → given left s ≡ Found e rest → rest .left < left
+      by-step (Faulty r) z g = absurd (let i : _≡_ {A = ℕ} 0 1 = cc in omega arith)
+      by-step (Stepped x next) z g = let i : left - 1 ≡ rest .left = cc in omega arith
 
-  pub stands-next : (at left : ℕ) (e : Entry) (rest : Rest) → Stands bytes at left → nextAt bytes at left ≡ Given e rest
-      → Stands bytes (rest .at) (rest .left) × (rest .left + 1 ≡ left)
-  stands-next at left e rest s f = by-entries (s .es) (s .holds)
-    where
-      by-entries : (es : List Entry) → Holds bytes (record { at = at; left = left }) es → Stands bytes (rest .at) (rest .left) × (rest .left + 1 ≡ left)
-      by-entries [] h = absurd (let n = holds-none bytes (record { at = at; left = left }) h in let z : _≡_ {A = ℕ} 0 1 = cc in omega arith)
-      by-entries (x ∷ xs) h =
-          let o = holds-next bytes (record { at = at; left = left }) x xs h in
-          let same : o .more ≡ rest = cc (o .gives) in
-          let holds : Holds bytes rest xs = rw same at (o .holds) in
-          (record { es = xs; holds = holds }, omega (arith, holds-count bytes rest xs holds, holds-count bytes (record { at = at; left = left }) (x ∷ xs) h))
+      go : Dec (left ≡ 0) → rest .left < left
+      go (yes z) = absurd (let g : None ≡ Found e rest = rw (eq-eqb left 0 z) at f in let i : _≡_ {A = ℕ} 0 1 = cc in omega arith)
+      go (no z) = by-step (entryAt 32 bytes at) z (rw (ne-eqb left 0 z) at f)
+
+-- ---- a reader after k turns
+abbrev pub turns : ℕ → Reader → Reader
+turns zero r = r
+turns (suc k) r = turns k (moved r)
+
+-- entry k, counted from 0, or none
+abbrev pub entryOr : List Entry → ℕ → Given
+entryOr [] k = Nothing
+entryOr (e ∷ es) zero = One e
+entryOr (e ∷ es) (suc k) = entryOr es k
+
+-- a reader of the entries es after k turns: the next turn gives entry k, or none where there is none; and so many remain
+pub record Reads (r : Reader) (es : List Entry) (k : ℕ) : Type 0 where
+  pub gives : turnOf (turns k r) .given ≡ entryOr es k
+  pub remain : turns k r .left ≡ length es - k
+
+abbrev rest-of : Reader → Rest
+rest-of r = record { at = r .at; left = r .left }
+
+abbrev onto : Reader → Rest → Reader
+onto r rest = record { list = r .list; at = rest .at; left = rest .left; number = r .number; place = r .place }
+
+-- one turn, and then k
+reads-on : (k : ℕ) (r q : Reader) (es xs : List Entry) → moved r ≡ q → entryOr es (suc k) ≡ entryOr xs k → length es - suc k ≡ length xs - k → Reads q xs k
+    → Reads r es (suc k)
+reads-on k r q es xs on e n i = record {
+  gives = ap (λ (p : Reader). turnOf (turns k p) .given) on ∙ i .gives ∙ sym e;
+  remain = ap (λ (p : Reader). turns k p .left) on ∙ i .remain ∙ sym n;
+}
+
+pub turns-given : (k : ℕ) (r : Reader) (es : List Entry) → Holds (now (r .list)) (rest-of r) es → Reads r es k
+turns-given zero r [] h = record { gives = rw (holds-none (now (r .list)) (rest-of r) h); remain = omega (arith, holds-count (now (r .list)) (rest-of r) [] h) }
+turns-given zero r (e ∷ es) h =
+    let o = holds-next (now (r .list)) (rest-of r) e es h in
+    record { gives = rw (o .gives); remain = omega (arith, holds-count (now (r .list)) (rest-of r) (e ∷ es) h) }
+turns-given (suc k) r [] h = reads-on k r r [] [] (rw (holds-none (now (r .list)) (rest-of r) h)) refl (omega arith) (turns-given k r [] h)
+turns-given (suc k) r (e ∷ es) h =
+    let o = holds-next (now (r .list)) (rest-of r) e es h in
+    reads-on k r (onto r (o .more)) (e ∷ es) es (rw (o .gives)) refl (omega arith) (turns-given k (onto r (o .more)) es (o .holds))
+
+-- where none is left, none is given, and the reader stays
+pub turns-none : (k : ℕ) (r : Reader) → r .left ≡ 0 → (turnOf (turns k r) .given ≡ Nothing) × (turns k r ≡ r)
+turns-none zero r z = (rw (z, none-left (now (r .list)) (r .at)), refl)
+turns-none (suc k) r z =
+    let stays : moved r ≡ r = rw (ap (nextAt (now (r .list)) (r .at)) z, none-left (now (r .list)) (r .at)) in
+    let (g, s) = turns-none k r z in
+    (ap (λ (q : Reader). turnOf (turns k q) .given) stays ∙ g, ap (turns k) stays ∙ s)
+
+-- a turn leaves the refusal as it is
+turns-number : (k : ℕ) (r : Reader) → turns k r .number ≡ r .number
+turns-number zero r = refl
+turns-number (suc k) r = turns-number k (moved r)
+
+-- ---- the reader that `start` makes
+module _ (cells : List ℕ) (list : RefT (List ℕ)) where
+  -- of an accepted list: its entries in order, then none for ever; how many remain, at every moment; and no refusal
+  pub accepted-reads : (es : List Entry) (end : ℕ) → listIn cells (now list) ≡ entries es end → (k : ℕ) → Reads (startOf cells list) es k × (turns k (startOf cells list) .number ≡ 0)
+  accepted-reads es end e k =
+      let (rest, is, holds) = listed-holds (now list) es end cells e in
+      let begun : startOf cells list ≡ readerOn list (opened (Entries rest)) = rw is in
+      rw begun (turns-given k (readerOn list (opened (Entries rest))) es holds, turns-number k (readerOn list (opened (Entries rest))))
+
+  -- of a refused list or book: none for ever, and always the refusal, whose number is not 0
+  pub refused-reads : (r : Refusal) → listIn cells (now list) ≡ refused r → (k : ℕ)
+      → (turnOf (turns k (startOf cells list)) .given ≡ Nothing) × (turns k (startOf cells list) ≡ readerOn list (opened (Unlisted r))) × (1 ≤ r .number)
+  refused-reads r e k =
+      let begun : startOf cells list ≡ readerOn list (opened (Unlisted r)) = rw e in
+      let (given, stays) = turns-none k (readerOn list (opened (Unlisted r))) refl in
+      rw begun (given, stays, refusal-numbered cells (now list) r e)

@@ -2,30 +2,28 @@
 ghost use mathlib.Core.Path.{_≡_};
 ghost use Rattle.lists.specs.List.{listIn, nthIn};
 ghost use Rattle.lists.specs.NthLaws.{Picked};
-ghost use Rattle.lists.specs.Reading.{Stands};
 use crate::Listing;
 use crate::Next;
 use crate::Nth;
 use crate::list::check_list;
-use crate::reading::next_entry_in;
+use crate::list::next_at;
 
 // Entry k of those that stand from an offset on.
 fn nth_from(list: &[u8], first: usize, count: usize, k: usize) -> Nth
-    requires { ⌜ Stands (now list) first count ⌝ }
     ensures { λ r. ⌜ Picked (now (list .entry)) first count k r ⌝ }
 {
     let mut at = first;
     let mut left = count;
     let mut i: usize = 0;
     while i < k {
-        let Next::Found(_, rest) = next_entry_in(list, at, left) else {
+        let Next::Found(_, rest) = next_at(list, at, left) else {
             return Nth::None;
         };
         at = rest.at;
         left = rest.left;
         i += 1;
     }
-    match next_entry_in(list, at, left) {
+    match next_at(list, at, left) {
         Next::None => Nth::None,
         Next::Found(e, _) => Nth::Found(e),
     }

@@ -12,9 +12,7 @@ pub use list::check_list;
 pub use list::next_at;
 use number::Cursor;
 use number::Refusal;
-pub use reading::moved;
 pub use reading::next_entry;
-pub use reading::next_entry_in;
 pub use reading::remaining;
 pub use reading::start;
 
@@ -49,9 +47,32 @@ pub enum Next {
     None,
 }
 
-// A reader over a checked list: the list, where its next entry begins, and how many are left.
+// Where a reader stands at first, and the refusal's number and place; number 0 for none.
+pub struct Opened {
+    pub at: usize,
+    pub left: usize,
+    pub number: u8,
+    pub place: usize,
+}
+
+// A reader over a list: the list, where its next entry begins, how many are left, and the refusal's number and place; number 0 for none.
 pub struct Reader<'a> {
     pub list: &'a [u8],
+    pub at: usize,
+    pub left: usize,
+    pub number: u8,
+    pub place: usize,
+}
+
+// What a reader gives.
+pub enum Given {
+    Found(Entry),
+    None,
+}
+
+// What a reader gives, with the rest after it.
+pub struct Turn {
+    pub given: Given,
     pub at: usize,
     pub left: usize,
 }

@@ -1,5 +1,4 @@
 // What the calls answer for a list against a book.
-ghost use Rattle.lists.specs.Reading.{Stands};
 use lists::Entry;
 use lists::Listing;
 use lists::Next;
@@ -18,14 +17,12 @@ fn entry(list: &[u8], e: Entry, left: usize) {
     trial::text(b"\n");
 }
 
-// Each entry that a reader gives, and that it gives none after the last.
-fn entries(list: &[u8], first: usize, count: usize)
-    requires { ⌜ Stands (now list) first count ⌝ }
-{
+// Each entry, and that there is none after the last.
+fn entries(list: &[u8], first: usize, count: usize) {
     let mut at = first;
     let mut left = count;
     while left != 0 {
-        let found = lists::next_entry_in(list, at, left);
+        let found = lists::next_at(list, at, left);
         let Next::Found(e, rest) = found else {
             trial::text(b"  missing\n");
             return;
@@ -34,7 +31,7 @@ fn entries(list: &[u8], first: usize, count: usize)
         left = rest.left;
         entry(list, e, left);
     }
-    match lists::next_entry_in(list, at, left) {
+    match lists::next_at(list, at, left) {
         Next::None => {
             trial::text(b"  none\n");
         }

@@ -1,7 +1,6 @@
 -- `lists::index::nth_entry` meets its contract: the check, then the entry. Assumes nothing.
 use mathlib.Core.Path.{sym, _∙_}
 use Rattle.lists.specs.NthLaws.{nth-stop, nth-on}
-use Rattle.lists.specs.ReadingLaws.{stands-start}
 use borrow.Author.Needs.{needs}
 use Rattle.lists.proofs.index.nth_entry.Statement.{statement}
 use Rattle.lists.proofs.index.nth_entry.Tie as tie
@@ -16,7 +15,7 @@ enum-known-rest : tie.Need-enum-known-rest
 enum-known-rest c = search needs
 
 nth-from-requires : tie.Need-nth-from-requires
-nth-from-requires c κs = stands-start _ _ _ (sym (c .before .before .before .check-list .ensures) ∙ c .before .rest .given .1)
+nth-from-requires c κs = search needs
 
 returns : tie.Need-returns
 returns c = nth-stop _ _ _ _ (sym (c .before .before .before .check-list .ensures) ∙ c .before .r .given .1)

@@ -13,25 +13,19 @@ abbrev μ-loop : tie.MeasureT-loop
 μ-loop list first count k at₀ left₀ i₀ at left i = k - i
 
 loop-holds : tie.Need-loop-holds Inv-loop μ-loop
-loop-holds c = skipped-none (c .before .pre)
-
-next-entry-in-requires : tie.Need-next-entry-in-requires Inv-loop μ-loop
-next-entry-in-requires c κs = c .before .loop .inv .stands
+loop-holds c = skipped-none
 
 returns : tie.Need-returns Inv-loop μ-loop
-returns c = record { is = skipped-stop (c .before .before .before .before .loop .inv) (sym (c .before .before .next-entry-in .ensures) ∙ c .enum-told .given .1) }
+returns c = record { is = skipped-stop (c .before .before .before .before .loop .inv) (sym (c .before .before .next-at .ensures) ∙ c .enum-told .given .1) }
 
 loop-again : tie.Need-loop-again Inv-loop μ-loop
-loop-again c = skipped-more (c .before .before .before .before .before .loop .inv) (c .before .before .before .before .loop-test .taken) (sym (c .before .before .before .next-entry-in .ensures) ∙ c .before .rest .given .1)
-
-next-entry-in-requires-2 : tie.Need-next-entry-in-requires-2 Inv-loop μ-loop
-next-entry-in-requires-2 c κs = c .before .loop .inv .stands
+loop-again c = skipped-more (c .before .before .before .before .before .loop .inv) (c .before .before .before .before .loop-test .taken) (sym (c .before .before .before .next-at .ensures) ∙ c .before .rest .given .1)
 
 returns-2 : tie.Need-returns-2 Inv-loop μ-loop
-returns-2 c = record { is = skipped-stop (c .before .before .before .before .loop .inv) (sym (c .before .before .next-entry-in2 .ensures) ∙ c .enum-told2 .given .1) }
+returns-2 c = record { is = skipped-stop (c .before .before .before .before .loop .inv) (sym (c .before .before .next-at2 .ensures) ∙ c .enum-told2 .given .1) }
 
 returns-3 : tie.Need-returns-3 Inv-loop μ-loop
-returns-3 c = record { is = skipped-done (c .before .before .before .before .before .loop .inv) (c .before .before .before .before .loop-test .left) (sym (c .before .before .before .next-entry-in2 .ensures) ∙ c .before .e .given .1) }
+returns-3 c = record { is = skipped-done (c .before .before .before .before .before .loop .inv) (c .before .before .before .before .loop-test .left) (sym (c .before .before .before .next-at2 .ensures) ∙ c .before .e .given .1) }
 
 pub nth-from-spec : {M : Type 1} → statement M
 nth-from-spec =
@@ -40,14 +34,14 @@ nth-from-spec =
     Inv-loop
     μ-loop
     loop-holds
-    next-entry-in-requires
+    (λ c κs. search needs)
     (λ c. search needs)
     (λ c. search needs)
     returns
     (λ c. search needs)
     (λ c. search needs)
     loop-again
-    next-entry-in-requires-2
+    (λ c κs. search needs)
     (λ c. search needs)
     (λ c. search needs)
     returns-2
