@@ -8,10 +8,11 @@
  */
 #include <stdio.h>
 #include <stdlib.h>
+#include <string.h>
 
 #include "purlquartz.h"
 
-static int refused(const uint64_t answer[6])
+static int refused(const uint64_t answer[8])
 {
     if (answer[0] != PURLQUARTZ_REFUSED) {
         return 0;
@@ -30,23 +31,30 @@ static size_t read_file(const char *name, uint8_t *bytes, size_t most)
         exit(2);
     }
     size_t count = fread(bytes, 1, most, file);
+    if (ferror(file)) {
+        perror(name);
+        exit(2);
+    }
     fclose(file);
     return count;
 }
 
-/* A number below 65,536. */
+/* A number below 65,536, in digits alone. */
 static uint16_t number(const char *text)
 {
-    char *end;
-    unsigned long value = strtoul(text, &end, 10);
-    if (*text == 0 || *end != 0 || value > 65535) {
-        fprintf(stderr, "not a number: %s\n", text);
+    unsigned long value = 0;
+    size_t digits = strspn(text, "0123456789");
+    for (size_t at = 0; at < digits && value <= 65535; at++) {
+        value = 10 * value + (unsigned long)(text[at] - '0');
+    }
+    if (digits == 0 || text[digits] != 0 || value > 65535) {
+        fprintf(stderr, "not a number below 65536: %s\n", text);
         exit(2);
     }
     return (uint16_t)value;
 }
 
-static void print_found(const uint64_t answer[6], const uint8_t *sentence)
+static void print_found(const uint64_t answer[8], const uint8_t *sentence)
 {
     if (answer[0] == PURLQUARTZ_FOUND_UNREACHED) {
         puts("unreached");
@@ -65,7 +73,7 @@ static void print_found(const uint64_t answer[6], const uint8_t *sentence)
 /* Lends as many work cells as the book needs. */
 static int find(const uint16_t *cells, size_t count, uint16_t state, uint16_t lookahead)
 {
-    uint64_t answer[6];
+    uint64_t answer[8];
     purlquartz_check(cells, count, answer);
     if (refused(answer)) {
         return 1;
@@ -98,7 +106,7 @@ int main(int argc, char **argv)
     uint16_t state = number(argv[2]);
     uint16_t lookahead = number(argv[3]);
     size_t byte_count = read_file(argv[1], bytes, sizeof bytes);
-    uint64_t answer[6];
+    uint64_t answer[8];
     purlquartz_read(bytes, byte_count, cells, PURLQUARTZ_MOST_CELLS, answer);
     if (refused(answer)) {
         return 1;

@@ -18,10 +18,15 @@
  * the count is 0, and must be good for the count. Slices that are written to (not const) must
  * overlap no other. Nothing is allocated, and no pointer is kept after a call.
  *
- * Answers. Every call fills answer[0] to answer[5]: answer[0] is the kind, the others its values,
- * unused ones 0. Kind 0 is a refusal, answer[1] its number and answer[2] its place; then no lent
- * memory but the answer has changed. All inputs are checked before anything else happens, in the
- * order: the book's cells or bytes; the list or sentence; then 10, 11, 13, 12.
+ * Call stack. purlquartz_find uses less than 400,000 bytes of it; purlquartz_map, purlquartz_sets
+ * and purlquartz_judge less than 40,000; every other call less than 1,000. These are rounded up
+ * from what was measured.
+ *
+ * Answers. Every call fills answer[0] to answer[7]: answer[0] is the kind, the others its values,
+ * unused ones 0. The answer must not be null, and must overlap no slice. Kind 0 is a refusal,
+ * answer[1] its number and answer[2] its place; then no lent memory but the answer has changed.
+ * All inputs are checked before anything else happens, in the order: the book's cells or bytes;
+ * the list or sentence; then 10, 11, 13, 12.
  *
  *   number  cause                                              place
  *   1   a book or list stops before a due number is complete   where the missing number begins
@@ -77,7 +82,7 @@ extern "C" {
 #define PURLQUARTZ_FOUND_LONG 2u
 #define PURLQUARTZ_FOUND_SENTENCE 3u
 
-/* answer[0] of purlquartz_entry. */
+/* answer[0] of purlquartz_entry and purlquartz_next_entry. */
 #define PURLQUARTZ_ENTRY_FOUND 1u
 #define PURLQUARTZ_ENTRY_NONE 2u
 
@@ -98,7 +103,7 @@ extern "C" {
  */
 void purlquartz_read(const uint8_t *bytes, size_t byte_count,
                      uint16_t *cells, size_t cell_count,
-                     uint64_t answer[6]);
+                     uint64_t answer[8]);
 
 /*
  * Checks the cells of a book.
@@ -106,7 +111,7 @@ void purlquartz_read(const uint8_t *bytes, size_t byte_count,
  * Refusals: 1, 3, 4, 5, 6. Every call that takes cells gives these first.
  */
 void purlquartz_check(const uint16_t *cells, size_t cell_count,
-                      uint64_t answer[6]);
+                      uint64_t answer[8]);
 
 /*
  * Writes the book that the cells hold to the first lent bytes; the bytes after them keep their
@@ -116,7 +121,7 @@ void purlquartz_check(const uint16_t *cells, size_t cell_count,
  */
 void purlquartz_write(const uint16_t *cells, size_t cell_count,
                       uint8_t *bytes, size_t byte_count,
-                      uint64_t answer[6]);
+                      uint64_t answer[8]);
 
 /*
  * Runs a sentence, symbols from 1 to T - 1 and at most 1,000 of them, with a lookahead. The first
@@ -132,7 +137,7 @@ void purlquartz_run(const uint16_t *cells, size_t cell_count,
                     const uint8_t *sentence, size_t sentence_count,
                     uint16_t lookahead,
                     uint16_t *stack, size_t stack_count,
-                    uint64_t answer[6]);
+                    uint64_t answer[8]);
 
 /*
  * Finds the shortest sentence that brings the machine to the state with the lookahead, and of
@@ -148,7 +153,7 @@ void purlquartz_find(const uint16_t *cells, size_t cell_count,
                      uint16_t state, uint16_t lookahead,
                      uint16_t *work, size_t work_count,
                      uint8_t *buffer, size_t buffer_count,
-                     uint64_t answer[6]);
+                     uint64_t answer[8]);
 
 /*
  * Writes the whole map to the first S * T lent cells, by state, then terminal: the least length of
@@ -161,7 +166,7 @@ void purlquartz_find(const uint16_t *cells, size_t cell_count,
 void purlquartz_map(const uint16_t *cells, size_t cell_count,
                     uint16_t *work, size_t work_count,
                     uint16_t *map, size_t map_count,
-                    uint64_t answer[6]);
+                    uint64_t answer[8]);
 
 /*
  * Writes for each state the set of lookaheads that it is reached with, long ones too, bit z for
@@ -175,7 +180,7 @@ void purlquartz_sets(const uint16_t *cells, size_t cell_count,
                      uint16_t *work, size_t work_count,
                      uint32_t *sets, size_t set_count,
                      uint32_t *sizes, size_t size_count,
-                     uint64_t answer[6]);
+                     uint64_t answer[8]);
 
 /*
  * Checks a list of sentences against a book. A list is numbers as in a book: the count of
@@ -186,7 +191,7 @@ void purlquartz_sets(const uint16_t *cells, size_t cell_count,
  */
 void purlquartz_check_list(const uint16_t *cells, size_t cell_count,
                            const uint8_t *list, size_t list_count,
-                           uint64_t answer[6]);
+                           uint64_t answer[8]);
 
 /*
  * Looks up one entry of a list by its index from 0.
@@ -197,7 +202,21 @@ void purlquartz_check_list(const uint16_t *cells, size_t cell_count,
 void purlquartz_entry(const uint16_t *cells, size_t cell_count,
                       const uint8_t *list, size_t list_count,
                       size_t index,
-                      uint64_t answer[6]);
+                      uint64_t answer[8]);
+
+/*
+ * Goes from entry to entry of a checked list: the entry at an offset, of which so many entries are
+ * left. The first offset and count are answer[1] and answer[2] of purlquartz_check_list, each later
+ * pair answer[4] and answer[5] of this call. The book is not needed any more, and all entries
+ * together take time in proportion to the list.
+ * Kinds: 1 found, answer[1] to answer[3] as by purlquartz_entry, answer[4] the offset after the
+ * entry, answer[5] how many are left after it; 2 none, no entry is left.
+ * No refusals. Any offset, count and bytes may be given: the answer is also 2 if no entry with
+ * symbols and a lookahead below 32 stands at the offset.
+ */
+void purlquartz_next_entry(const uint8_t *list, size_t list_count,
+                           size_t offset, size_t left,
+                           uint64_t answer[8]);
 
 /*
  * Judges a list. An entry is wrong if its run does not end as error with the whole sentence in,
@@ -214,7 +233,7 @@ void purlquartz_judge(const uint16_t *cells, size_t cell_count,
                       const uint8_t *list, size_t list_count,
                       uint16_t *work, size_t work_count,
                       uint16_t *stack, size_t stack_count,
-                      uint64_t answer[6]);
+                      uint64_t answer[8]);
 
 #ifdef __cplusplus
 }

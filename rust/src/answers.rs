@@ -92,11 +92,11 @@ pub enum Found {
     Sentence(usize),
 }
 
-/// The entries of a list: the offset of the first one, and how many there are.
+/// The rest of a list: the offset of its next entry, and how many entries are left.
 #[derive(Clone, Copy, Debug, PartialEq, Eq)]
-pub struct Entries {
-    pub first: usize,
-    pub count: usize,
+pub struct Rest {
+    pub offset: usize,
+    pub left: usize,
 }
 
 /// One entry of a list: where its symbols stand, how many there are, and its lookahead.

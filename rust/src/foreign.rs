@@ -1,9 +1,9 @@
 //! The functions of the static library, and the only unsafe code.
 //!
-//! Each function here lends its slices for the length of one call and hands back the six numbers
+//! Each function here lends its slices for the length of one call and hands back the eight numbers
 //! of the answer: the kind, then its values.
 
-pub(crate) type Answer = [u64; 6];
+pub(crate) type Answer = [u64; 8];
 
 extern "C" {
     fn purlquartz_read(
@@ -77,6 +77,13 @@ extern "C" {
         index: usize,
         answer: *mut u64,
     );
+    fn purlquartz_next_entry(
+        list: *const u8,
+        list_count: usize,
+        offset: usize,
+        left: usize,
+        answer: *mut u64,
+    );
     fn purlquartz_judge(
         cells: *const u16,
         cell_count: usize,
@@ -91,11 +98,11 @@ extern "C" {
 }
 
 // Every call below is sound for the same reason: a slice's pointer is not null and good for its
-// count, a lent slice is borrowed mutably and so overlaps nothing else, and the answer has six
+// count, a lent slice is borrowed mutably and so overlaps nothing else, and the answer has eight
 // numbers. The library keeps no pointer after it returns.
 
 pub(crate) fn read(bytes: &[u8], cells: &mut [u16]) -> Answer {
-    let mut answer = [0; 6];
+    let mut answer = [0; 8];
     unsafe {
         purlquartz_read(
             bytes.as_ptr(),
@@ -109,13 +116,13 @@ pub(crate) fn read(bytes: &[u8], cells: &mut [u16]) -> Answer {
 }
 
 pub(crate) fn check(cells: &[u16]) -> Answer {
-    let mut answer = [0; 6];
+    let mut answer = [0; 8];
     unsafe { purlquartz_check(cells.as_ptr(), cells.len(), answer.as_mut_ptr()) }
     answer
 }
 
 pub(crate) fn write(cells: &[u16], bytes: &mut [u8]) -> Answer {
-    let mut answer = [0; 6];
+    let mut answer = [0; 8];
     unsafe {
         purlquartz_write(
             cells.as_ptr(),
@@ -129,7 +136,7 @@ pub(crate) fn write(cells: &[u16], bytes: &mut [u8]) -> Answer {
 }
 
 pub(crate) fn run(cells: &[u16], sentence: &[u8], lookahead: u16, stack: &mut [u16]) -> Answer {
-    let mut answer = [0; 6];
+    let mut answer = [0; 8];
     unsafe {
         purlquartz_run(
             cells.as_ptr(),
@@ -152,7 +159,7 @@ pub(crate) fn find(
     work: &mut [u16],
     buffer: &mut [u8],
 ) -> Answer {
-    let mut answer = [0; 6];
+    let mut answer = [0; 8];
     unsafe {
         purlquartz_find(
             cells.as_ptr(),
@@ -170,7 +177,7 @@ pub(crate) fn find(
 }
 
 pub(crate) fn map(cells: &[u16], work: &mut [u16], map: &mut [u16]) -> Answer {
-    let mut answer = [0; 6];
+    let mut answer = [0; 8];
     unsafe {
         purlquartz_map(
             cells.as_ptr(),
@@ -186,7 +193,7 @@ pub(crate) fn map(cells: &[u16], work: &mut [u16], map: &mut [u16]) -> Answer {
 }
 
 pub(crate) fn sets(cells: &[u16], work: &mut [u16], sets: &mut [u32], sizes: &mut [u32]) -> Answer {
-    let mut answer = [0; 6];
+    let mut answer = [0; 8];
     unsafe {
         purlquartz_sets(
             cells.as_ptr(),
@@ -204,7 +211,7 @@ pub(crate) fn sets(cells: &[u16], work: &mut [u16], sets: &mut [u32], sizes: &mu
 }
 
 pub(crate) fn check_list(cells: &[u16], list: &[u8]) -> Answer {
-    let mut answer = [0; 6];
+    let mut answer = [0; 8];
     unsafe {
         purlquartz_check_list(
             cells.as_ptr(),
@@ -218,7 +225,7 @@ pub(crate) fn check_list(cells: &[u16], list: &[u8]) -> Answer {
 }
 
 pub(crate) fn entry(cells: &[u16], list: &[u8], index: usize) -> Answer {
-    let mut answer = [0; 6];
+    let mut answer = [0; 8];
     unsafe {
         purlquartz_entry(
             cells.as_ptr(),
@@ -232,8 +239,14 @@ pub(crate) fn entry(cells: &[u16], list: &[u8], index: usize) -> Answer {
     answer
 }
 
+pub(crate) fn next_entry(list: &[u8], offset: usize, left: usize) -> Answer {
+    let mut answer = [0; 8];
+    unsafe { purlquartz_next_entry(list.as_ptr(), list.len(), offset, left, answer.as_mut_ptr()) }
+    answer
+}
+
 pub(crate) fn judge(cells: &[u16], list: &[u8], work: &mut [u16], stack: &mut [u16]) -> Answer {
-    let mut answer = [0; 6];
+    let mut answer = [0; 8];
     unsafe {
         purlquartz_judge(
             cells.as_ptr(),

@@ -8,10 +8,12 @@
 #![deny(unsafe_code)]
 
 mod answers;
+mod entries;
 #[allow(unsafe_code)]
 mod foreign;
 
 pub use answers::*;
+pub use entries::Entries;
 use foreign::Answer;
 
 /// Reads a book from bytes into the first lent cells, and answers how many. The cells after them
@@ -115,11 +117,33 @@ pub fn sets(
 /// Refusals: those of [`check`]; then with the offset of the number's first byte 1, 2, 9 for the
 /// count; for each entry 1, 2, 8 for its length, 1, 2, 7 for each symbol and 1, 2, 11 for its
 /// lookahead; 6.
-pub fn check_list(cells: &[u16], list: &[u8]) -> Result<Entries, Refusal> {
+pub fn check_list(cells: &[u16], list: &[u8]) -> Result<Rest, Refusal> {
     let answer = accepted(foreign::check_list(cells, list))?;
-    Ok(Entries {
-        first: answer[1] as usize,
-        count: answer[2] as usize,
+    Ok(Rest {
+        offset: answer[1] as usize,
+        left: answer[2] as usize,
+    })
+}
+
+/// Checks a list against a book, and answers an iterator over its entries. All of them together
+/// take time in proportion to the list.
+///
+/// Refusals: those of [`check_list`].
+pub fn entries<'list>(cells: &[u16], list: &'list [u8]) -> Result<Entries<'list>, Refusal> {
+    Ok(Entries::new(list, check_list(cells, list)?))
+}
+
+/// Answers the next entry of a list that [`check_list`] has found good, and what is left after it,
+/// or none after the last. With any other rest it still answers: none if no entry with symbols and
+/// a lookahead below 32 stands at the offset.
+pub fn next_entry(list: &[u8], rest: Rest) -> Option<(Entry, Rest)> {
+    let answer = foreign::next_entry(list, rest.offset, rest.left);
+    one_entry(&answer).map(|entry| {
+        let rest = Rest {
+            offset: answer[4] as usize,
+            left: answer[5] as usize,
+        };
+        (entry, rest)
     })
 }
 
@@ -128,15 +152,7 @@ pub fn check_list(cells: &[u16], list: &[u8]) -> Result<Entries, Refusal> {
 /// Refusals: those of [`check_list`].
 pub fn entry(cells: &[u16], list: &[u8], index: usize) -> Result<Option<Entry>, Refusal> {
     let answer = accepted(foreign::entry(cells, list, index))?;
-    Ok(match answer[0] {
-        1 => Some(Entry {
-            start: answer[1] as usize,
-            length: answer[2] as usize,
-            lookahead: answer[3] as u16,
-        }),
-        2 => None,
-        kind => unknown(kind),
-    })
+    Ok(one_entry(&answer))
 }
 
 /// Judges a list: the first entry that is wrong or repeats a state, or else whether every state
@@ -182,6 +198,18 @@ fn count(answer: Answer) -> Result<usize, Refusal> {
     let answer = accepted(answer)?;
     match answer[0] {
         1 => Ok(answer[1] as usize),
+        kind => unknown(kind),
+    }
+}
+
+fn one_entry(answer: &Answer) -> Option<Entry> {
+    match answer[0] {
+        1 => Some(Entry {
+            start: answer[1] as usize,
+            length: answer[2] as usize,
+            lookahead: answer[3] as u16,
+        }),
+        2 => None,
         kind => unknown(kind),
     }
 }

@@ -303,6 +303,16 @@ fn finder_of_large_books() {
     tally.expect("map", "");
 }
 
+/// Any offset, as a rule within the list, and any count of entries left.
+fn some_rest(random: &mut Random, list: &[u8]) -> Rest {
+    let offset = match random.below(8) {
+        0 => random.pick(&[list.len() + 1, 65_536, usize::MAX - 1, usize::MAX]),
+        _ => random.below(list.len() + 1),
+    };
+    let left = random.pick(&[0, 1, 2, 127, 128, 129, usize::MAX]);
+    Rest { offset, left }
+}
+
 /// Checks one list in every way.
 fn compare_list(random: &mut Random, tally: &mut Tally, book: &Book, cells: &[u16], list: &[u8]) {
     tally.note(
@@ -314,6 +324,12 @@ fn compare_list(random: &mut Random, tally: &mut Tally, book: &Book, cells: &[u1
     tally.note("entry", compare::entry(&LIBRARY, cells, list, index), cells);
     let index = random.pick(&[0, 127, 128, usize::MAX]);
     tally.note("entry", compare::entry(&LIBRARY, cells, list, index), cells);
+    tally.note("entries", compare::entries(&LIBRARY, cells, list), cells);
+    for _ in 0..4 {
+        let rest = some_rest(random, list);
+        let outcome = compare::next_entry(&LIBRARY, list, rest);
+        tally.note("next_entry", outcome, cells);
+    }
     let work = lend(random, book.sizes.work_cells());
     let stack = lend(random, STACK_CELLS);
     let outcome = compare::judge(&LIBRARY, cells, list, &work, &stack);
@@ -333,8 +349,10 @@ fn lists() {
         let list = damaged_list(&mut random, &lines, book.sizes.terminals);
         compare_list(&mut random, &mut tally, &book, &cells, &list);
     }
-    tally.expect("check_list", "Entries 1 2 3 4 5 6 7 8 9 11");
+    tally.expect("check_list", "Rest 1 2 3 4 5 6 7 8 9 11");
     tally.expect("entry", "Some None 1 2 3 4 5 6 7 8 9 11");
+    tally.expect("entries", " 1 2 3 4 5 6 7 8 9 11");
+    tally.expect("next_entry", "Some None");
     tally.expect("judge", "Complete Uncovered Repeat Wrong");
     tally.expect("judge", "1 2 3 4 5 6 7 8 9 11 13");
 }

@@ -170,6 +170,13 @@ fn bracket_lists(calls: &Calls) {
     assert_eq!(judge(&list), Ok(Judgement::Complete));
     let shorter = [5, 0, 0, 1, 1, 1, 1, 1, 3, 2, 2, 1, 0, 3, 2, 1, 3, 1];
     assert_eq!(judge(&shorter), Ok(Judgement::Uncovered { state: 2 }));
+    let entries = (calls.entries)(&cells, &list).expect("a good list");
+    let lookaheads: Vec<u16> = entries.iter().map(|entry| entry.lookahead).collect();
+    assert_eq!(lookaheads, [0, 1, 0, 3, 0, 1]);
+    let rest = |offset, left| Rest { offset, left };
+    let next = (calls.next_entry)(&list, rest(12, 2)).expect("an entry");
+    assert_eq!((next.0.symbols(&list), next.1), (&[2, 1][..], rest(16, 1)));
+    assert_eq!((calls.next_entry)(&list, rest(12, 0)), None);
     let entry = (calls.entry)(&cells, &list, 4).expect("a good list");
     assert_eq!(entry.map(|entry| entry.symbols(&list)), Some(&[2, 1][..]));
     assert_eq!((calls.entry)(&cells, &list, 6), Ok(None));

@@ -2,6 +2,8 @@
 use mathlib.Core.List.{List, [], _∷_}
 use mathlib.Core.Path.{_≡_}
 use Prim.Native.Nat.{ℕ}
+use lib.ListN.{replicate}
+use Rattle.number.specs.Lent.{over}
 use Rattle.number.specs.declared.Refusal.{Refusal}
 use Rattle.book.specs.declared.Checked.{Checked}
 use Rattle.book.specs.declared.Checked.the-variants.{Valid, Refused as Faulty}
@@ -18,26 +20,32 @@ use Rattle.finder.specs.declared.Found.the-variants.{Unreached, Long, Sentence,
 use Rattle.finder.specs.Finder.{Finds, Maps, Gathers}
 use Rattle.lists.specs.declared.Listing.{Listing}
 use Rattle.lists.specs.declared.Listing.the-variants.{Entries, Refused as Unlisted}
+use Rattle.lists.specs.declared.Next.{Next}
+use Rattle.lists.specs.declared.Next.the-variants.{Found as Further, None as Past}
 use Rattle.lists.specs.declared.Nth.{Nth}
 use Rattle.lists.specs.declared.Nth.the-variants.{Found as One, None, Refused as Unfound}
 use Rattle.judgement.specs.declared.Judgement.{Judgement}
 use Rattle.judgement.specs.declared.Judgement.the-variants.{Wrong, Repeat, Uncovered, Complete, Refused as Unjudged}
 use Rattle.judgement.specs.Judgement.{Judges}
 
--- 'Where an answer is an enum, a definition gives this paper's number and values for each of its cases': six numbers, the kind first
--- and then its values, 0 where there is none. Kind 0 is 'a refusal is a number and a place'
+-- 'Where an answer is an enum, a definition gives this paper's number and values for each of its cases': eight numbers, the kind first
+-- and then its values, 0 where there is none
+abbrev pub eight : List ℕ → List ℕ
+eight values = over values (replicate 8 0)
+
+-- kind 0: 'a refusal is a number and a place'
 abbrev pub refusal : Refusal → List ℕ
-refusal r = 0 ∷ r .number ∷ r .place ∷ 0 ∷ 0 ∷ 0 ∷ []
+refusal r = eight (0 ∷ r .number ∷ r .place ∷ [])
 
 -- how many cells or bytes were written
 abbrev pub written : Written → List ℕ
 written (Unwritten r) = refusal r
-written (Count n) = 1 ∷ n ∷ 0 ∷ 0 ∷ 0 ∷ 0 ∷ []
+written (Count n) = eight (1 ∷ n ∷ [])
 
 -- the sizes of a valid book: T, N, S, P
 abbrev pub checked : Checked → List ℕ
 checked (Faulty r) = refusal r
-checked (Valid d) = 1 ∷ d .t ∷ d .n ∷ d .s ∷ d .p ∷ 0 ∷ []
+checked (Valid d) = eight (1 ∷ d .t ∷ d .n ∷ d .s ∷ d .p ∷ [])
 
 -- 'It ends as accepted, error, broken, passed, deep or spinning': the kind
 abbrev pub kindOf : Ending → ℕ
@@ -50,7 +58,7 @@ kindOf (Spinning stop) = 6
 
 -- 'with the top state, the symbol looked at and how many were taken in'
 abbrev pub ended : ℕ → Stop → List ℕ
-ended kind stop = kind ∷ stop .state ∷ stop .symbol ∷ stop .taken ∷ 0 ∷ 0 ∷ []
+ended kind stop = eight (kind ∷ stop .state ∷ stop .symbol ∷ stop .taken ∷ [])
 
 abbrev pub ran : Ran → List ℕ
 ran (Unrun r) = refusal r
@@ -59,30 +67,35 @@ ran (Ended e) = ended (kindOf e) (stopOf e)
 -- 'For one pair the finder answers unreached, long or else a sentence', told by its length
 abbrev pub found : Found → List ℕ
 found (Unsought r) = refusal r
-found Unreached = 1 ∷ 0 ∷ 0 ∷ 0 ∷ 0 ∷ 0 ∷ []
-found Long = 2 ∷ 0 ∷ 0 ∷ 0 ∷ 0 ∷ 0 ∷ []
-found (Sentence n) = 3 ∷ n ∷ 0 ∷ 0 ∷ 0 ∷ 0 ∷ []
+found Unreached = eight (1 ∷ [])
+found Long = eight (2 ∷ [])
+found (Sentence n) = eight (3 ∷ n ∷ [])
 
 -- where the first entry of a list begins, and how many there are
 abbrev pub listed : Listing → List ℕ
 listed (Unlisted r) = refusal r
-listed (Entries rest) = 1 ∷ rest .at ∷ rest .left ∷ 0 ∷ 0 ∷ 0 ∷ []
+listed (Entries rest) = eight (1 ∷ rest .at ∷ rest .left ∷ [])
 
 -- an entry: where its symbols begin, how many, its lookahead; 'after the last it gives none'
 abbrev pub entry : Nth → List ℕ
 entry (Unfound r) = refusal r
-entry (One e) = 1 ∷ e .start ∷ e .len ∷ e .lookahead ∷ 0 ∷ 0 ∷ []
-entry None = 2 ∷ 0 ∷ 0 ∷ 0 ∷ 0 ∷ 0 ∷ []
+entry (One e) = eight (1 ∷ e .start ∷ e .len ∷ e .lookahead ∷ [])
+entry None = eight (2 ∷ [])
+
+-- the next entry as above, then the offset after it and 'how many remain'
+abbrev pub further : Next → List ℕ
+further (Further e rest) = eight (1 ∷ e .start ∷ e .len ∷ e .lookahead ∷ rest .at ∷ rest .left ∷ [])
+further Past = eight (2 ∷ [])
 
 -- 'A wrong entry's judgement carries the ending of its run'
 abbrev pub wrong : ℕ → ℕ → Stop → List ℕ
-wrong i kind stop = 4 ∷ i ∷ kind ∷ stop .state ∷ stop .symbol ∷ stop .taken ∷ []
+wrong i kind stop = eight (4 ∷ i ∷ kind ∷ stop .state ∷ stop .symbol ∷ stop .taken ∷ [])
 
 abbrev pub judged : Judgement → List ℕ
 judged (Unjudged r) = refusal r
-judged Complete = 1 ∷ 0 ∷ 0 ∷ 0 ∷ 0 ∷ 0 ∷ []
-judged (Uncovered s) = 2 ∷ s ∷ 0 ∷ 0 ∷ 0 ∷ 0 ∷ []
-judged (Repeat i) = 3 ∷ i ∷ 0 ∷ 0 ∷ 0 ∷ 0 ∷ []
+judged Complete = eight (1 ∷ [])
+judged (Uncovered s) = eight (2 ∷ s ∷ [])
+judged (Repeat i) = eight (3 ∷ i ∷ [])
 judged (Wrong i e) = wrong i (kindOf e) (stopOf e)
 
 -- one pair: an answer that is right, and its numbers

@@ -6,7 +6,7 @@ use crate::told::tell_checked;
 use crate::told::tell_written;
 
 #[no_mangle]
-pub extern "C" fn purlquartz_read(bytes: &[u8], cells: &mut [u16], answer: &mut [u64; 6])
+pub extern "C" fn purlquartz_read(bytes: &[u8], cells: &mut [u16], answer: &mut [u64; 8])
     ensures { λ _. ⌜ now (answer .exit) ≡ written (reading (now (bytes .entry)) (now (cells .entry)) .0) ⌝ }
     ensures { λ _. ⌜ now (cells .exit) ≡ reading (now (bytes .entry)) (now (cells .entry)) .1 ⌝ }
 {
@@ -14,14 +14,14 @@ pub extern "C" fn purlquartz_read(bytes: &[u8], cells: &mut [u16], answer: &mut 
 }
 
 #[no_mangle]
-pub extern "C" fn purlquartz_check(cells: &[u16], answer: &mut [u64; 6])
+pub extern "C" fn purlquartz_check(cells: &[u16], answer: &mut [u64; 8])
     ensures { λ _. ⌜ now (answer .exit) ≡ checked (answered (ofCells (now (cells .entry)))) ⌝ }
 {
     *answer = tell_checked(book::check(cells));
 }
 
 #[no_mangle]
-pub extern "C" fn purlquartz_write(cells: &[u16], bytes: &mut [u8], answer: &mut [u64; 6])
+pub extern "C" fn purlquartz_write(cells: &[u16], bytes: &mut [u8], answer: &mut [u64; 8])
     ensures { λ _. ⌜ now (answer .exit) ≡ written (writing (now (cells .entry)) (now (bytes .entry)) .0) ⌝ }
     ensures { λ _. ⌜ now (bytes .exit) ≡ writing (now (cells .entry)) (now (bytes .entry)) .1 ⌝ }
 {

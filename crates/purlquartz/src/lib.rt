@@ -1,4 +1,4 @@
-// The library for C and Rust: each public call under a C name, with its answer as six numbers. The first is the kind, 0 for a refusal; the
+// The library for C and Rust: each public call under a C name, with its answer as eight numbers. The first is the kind, 0 for a refusal; the
 // others are its values, 0 where there is none.
 mod books;
 mod entries;
@@ -12,6 +12,7 @@ pub use books::purlquartz_write;
 pub use entries::purlquartz_check_list;
 pub use entries::purlquartz_entry;
 pub use entries::purlquartz_judge;
+pub use entries::purlquartz_next_entry;
 pub use pairs::purlquartz_find;
 pub use pairs::purlquartz_map;
 pub use pairs::purlquartz_sets;

@@ -10,7 +10,7 @@ pub extern "C" fn purlquartz_find(
     lookahead: u16,
     work: &mut [u16],
     buffer: &mut [u8],
-    answer: &mut [u64; 6],
+    answer: &mut [u64; 8],
 )
     ensures { λ _. ⌜ FindTold (now (cells .entry)) state lookahead (now (work .entry)) (now (buffer .entry)) (now (answer .exit)) (now (work .exit)) (now (buffer .exit)) ⌝ }
 {
@@ -22,7 +22,7 @@ pub extern "C" fn purlquartz_map(
     cells: &[u16],
     work: &mut [u16],
     map: &mut [u16],
-    answer: &mut [u64; 6],
+    answer: &mut [u64; 8],
 )
     ensures { λ _. ⌜ MapTold (now (cells .entry)) (now (work .entry)) (now (map .entry)) (now (answer .exit)) (now (work .exit)) (now (map .exit)) ⌝ }
 {
@@ -35,7 +35,7 @@ pub extern "C" fn purlquartz_sets(
     work: &mut [u16],
     masks: &mut [u32],
     sizes: &mut [u32],
-    answer: &mut [u64; 6],
+    answer: &mut [u64; 8],
 )
     ensures { λ _. ⌜ SetsTold (now (cells .entry)) (now (work .entry)) (now (masks .entry)) (now (sizes .entry)) (now (answer .exit)) (now (work .exit)) (now (masks .exit)) (now (sizes .exit)) ⌝ }
 {

@@ -10,7 +10,7 @@ pub extern "C" fn purlquartz_run(
     sentence: &[u8],
     lookahead: u16,
     stack: &mut [u16],
-    answer: &mut [u64; 6],
+    answer: &mut [u64; 8],
 )
     ensures { λ _. ⌜ now (answer .exit) ≡ ran (running (now (cells .entry)) (now (sentence .entry)) lookahead (now (stack .entry)) .0) ⌝ }
     ensures { λ _. ⌜ now (stack .exit) ≡ running (now (cells .entry)) (now (sentence .entry)) lookahead (now (stack .entry)) .1 ⌝ }

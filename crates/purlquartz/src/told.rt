@@ -1,11 +1,13 @@
-// The answers as six numbers.
+// The answers as eight numbers.
+ghost use mathlib.Core.List.{[], _∷_};
 ghost use mathlib.Core.Path.{_≡_};
-ghost use Rattle.purlquartz.specs.Told.{refusal, written, checked, kindOf, ended, ran, found, listed, entry, wrong, judged};
+ghost use Rattle.purlquartz.specs.Told.{eight, refusal, written, checked, kindOf, ended, ran, found, listed, entry, further, wrong, judged};
 use book::Checked;
 use book::Written;
 use finder::Found;
 use judgement::Judgement;
 use lists::Listing;
+use lists::Next;
 use lists::Nth;
 use machine::Ending;
 use machine::Ran;
@@ -13,27 +15,34 @@ use machine::Stop;
 use machine::stop_of;
 use number::Refusal;
 
-fn tell_refusal(r: Refusal) -> [u64; 6]
-    ensures { λ n. ⌜ n ≡ refusal r ⌝ }
+// A kind with at most three values.
+fn few(kind: u64, a: u64, b: u64, c: u64) -> [u64; 8]
+    ensures { λ n. ⌜ n ≡ eight (kind ∷ a ∷ b ∷ c ∷ []) ⌝ }
 {
-    [0, r.number as u64, r.place as u64, 0, 0, 0]
+    [kind, a, b, c, 0, 0, 0, 0]
 }
 
-pub fn tell_written(w: Written) -> [u64; 6]
+fn tell_refusal(r: Refusal) -> [u64; 8]
+    ensures { λ n. ⌜ n ≡ refusal r ⌝ }
+{
+    few(0, r.number as u64, r.place as u64, 0)
+}
+
+pub fn tell_written(w: Written) -> [u64; 8]
     ensures { λ n. ⌜ n ≡ written w ⌝ }
 {
     match w {
         Written::Refused(r) => tell_refusal(r),
-        Written::Count(n) => [1, n as u64, 0, 0, 0, 0],
+        Written::Count(n) => few(1, n as u64, 0, 0),
     }
 }
 
-pub fn tell_checked(c: Checked) -> [u64; 6]
+pub fn tell_checked(c: Checked) -> [u64; 8]
     ensures { λ n. ⌜ n ≡ checked c ⌝ }
 {
     match c {
         Checked::Refused(r) => tell_refusal(r),
-        Checked::Valid(d) => [1, d.t as u64, d.n as u64, d.s as u64, d.p as u64, 0],
+        Checked::Valid(d) => [1, d.t as u64, d.n as u64, d.s as u64, d.p as u64, 0, 0, 0],
     }
 }
 
@@ -50,20 +59,18 @@ fn kind_of(e: Ending) -> u64
     }
 }
 
-fn tell_ended(kind: u64, stop: Stop) -> [u64; 6]
+fn tell_ended(kind: u64, stop: Stop) -> [u64; 8]
     ensures { λ n. ⌜ n ≡ ended kind stop ⌝ }
 {
-    [
+    few(
         kind,
         stop.state as u64,
         stop.symbol as u64,
         stop.taken as u64,
-        0,
-        0,
-    ]
+    )
 }
 
-pub fn tell_ran(r: Ran) -> [u64; 6]
+pub fn tell_ran(r: Ran) -> [u64; 8]
     ensures { λ n. ⌜ n ≡ ran r ⌝ }
 {
     match r {
@@ -72,37 +79,55 @@ pub fn tell_ran(r: Ran) -> [u64; 6]
     }
 }
 
-pub fn tell_found(f: Found) -> [u64; 6]
+pub fn tell_found(f: Found) -> [u64; 8]
     ensures { λ n. ⌜ n ≡ found f ⌝ }
 {
     match f {
         Found::Refused(r) => tell_refusal(r),
-        Found::Unreached => [1, 0, 0, 0, 0, 0],
-        Found::Long => [2, 0, 0, 0, 0, 0],
-        Found::Sentence(n) => [3, n as u64, 0, 0, 0, 0],
+        Found::Unreached => few(1, 0, 0, 0),
+        Found::Long => few(2, 0, 0, 0),
+        Found::Sentence(n) => few(3, n as u64, 0, 0),
     }
 }
 
-pub fn tell_listed(l: Listing) -> [u64; 6]
+pub fn tell_listed(l: Listing) -> [u64; 8]
     ensures { λ n. ⌜ n ≡ listed l ⌝ }
 {
     match l {
         Listing::Refused(r) => tell_refusal(r),
-        Listing::Entries(rest) => [1, rest.at as u64, rest.left as u64, 0, 0, 0],
+        Listing::Entries(rest) => few(1, rest.at as u64, rest.left as u64, 0),
     }
 }
 
-pub fn tell_entry(e: Nth) -> [u64; 6]
+pub fn tell_entry(e: Nth) -> [u64; 8]
     ensures { λ n. ⌜ n ≡ entry e ⌝ }
 {
     match e {
         Nth::Refused(r) => tell_refusal(r),
-        Nth::Found(e) => [1, e.start as u64, e.len as u64, e.lookahead as u64, 0, 0],
-        Nth::None => [2, 0, 0, 0, 0, 0],
+        Nth::Found(e) => few(1, e.start as u64, e.len as u64, e.lookahead as u64),
+        Nth::None => few(2, 0, 0, 0),
     }
 }
 
-fn tell_wrong(i: usize, kind: u64, stop: Stop) -> [u64; 6]
+pub fn tell_next(n: Next) -> [u64; 8]
+    ensures { λ r. ⌜ r ≡ further n ⌝ }
+{
+    match n {
+        Next::Found(e, rest) => [
+            1,
+            e.start as u64,
+            e.len as u64,
+            e.lookahead as u64,
+            rest.at as u64,
+            rest.left as u64,
+            0,
+            0,
+        ],
+        Next::None => few(2, 0, 0, 0),
+    }
+}
+
+fn tell_wrong(i: usize, kind: u64, stop: Stop) -> [u64; 8]
     ensures { λ n. ⌜ n ≡ wrong i kind stop ⌝ }
 {
     [
@@ -112,17 +137,19 @@ fn tell_wrong(i: usize, kind: u64, stop: Stop) -> [u64; 6]
         stop.state as u64,
         stop.symbol as u64,
         stop.taken as u64,
+        0,
+        0,
     ]
 }
 
-pub fn tell_judged(j: Judgement) -> [u64; 6]
+pub fn tell_judged(j: Judgement) -> [u64; 8]
     ensures { λ n. ⌜ n ≡ judged j ⌝ }
 {
     match j {
         Judgement::Refused(r) => tell_refusal(r),
-        Judgement::Complete => [1, 0, 0, 0, 0, 0],
-        Judgement::Uncovered(s) => [2, s as u64, 0, 0, 0, 0],
-        Judgement::Repeat(i) => [3, i as u64, 0, 0, 0, 0],
+        Judgement::Complete => few(1, 0, 0, 0),
+        Judgement::Uncovered(s) => few(2, s as u64, 0, 0),
+        Judgement::Repeat(i) => few(3, i as u64, 0, 0),
         Judgement::Wrong(i, e) => tell_wrong(i, kind_of(e), stop_of(e)),
     }
 }

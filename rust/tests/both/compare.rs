@@ -5,7 +5,7 @@ use super::lent::{Lent, Memory};
 use super::{Calls, INDEPENDENT};
 use crate::independent::book::Book;
 use crate::independent::calls::find_all;
-use purlquartz::Refusal;
+use purlquartz::{Refusal, Rest};
 use std::fmt::Debug;
 
 /// What both answered, in a word: a refusal's number, or the name of the case. Or how they differ.
@@ -155,6 +155,26 @@ pub fn entry(subject: &Calls, cells: &[u16], list: &[u8], index: usize) -> Outco
         (answer, (cells, list))
     };
     same("entry", made(subject), made(&INDEPENDENT))
+}
+
+/// All entries by the iterator.
+pub fn entries(subject: &Calls, cells: &[u16], list: &[u8]) -> Outcome {
+    let made = |calls: &Calls| {
+        let (cells, list) = (Lent::holding(cells), Lent::holding(list));
+        let answer = (calls.entries)(cells.part(), list.part());
+        (answer, (cells, list))
+    };
+    same("entries", made(subject), made(&INDEPENDENT))
+}
+
+/// Never a refusal: any offset and any count of entries left are taken.
+pub fn next_entry(subject: &Calls, list: &[u8], rest: Rest) -> Outcome {
+    let made = |calls: &Calls| {
+        let list = Lent::holding(list);
+        let answer = (calls.next_entry)(list.part(), rest);
+        (Ok(answer), list)
+    };
+    same("next_entry", made(subject), made(&INDEPENDENT))
 }
 
 pub fn judge(

@@ -18,9 +18,24 @@ pub struct Calls {
     pub find: fn(&[u16], u16, u16, &mut [u16], &mut [u8]) -> Refused<Found>,
     pub map: fn(&[u16], &mut [u16], &mut [u16]) -> Refused<usize>,
     pub sets: fn(&[u16], &mut [u16], &mut [u32], &mut [u32]) -> Refused<usize>,
-    pub check_list: fn(&[u16], &[u8]) -> Refused<Entries>,
+    pub check_list: fn(&[u16], &[u8]) -> Refused<Rest>,
     pub entry: fn(&[u16], &[u8], usize) -> Refused<Option<Entry>>,
+    pub entries: fn(&[u16], &[u8]) -> Refused<Vec<Entry>>,
+    pub next_entry: fn(&[u8], Rest) -> Option<(Entry, Rest)>,
     pub judge: fn(&[u16], &[u8], &mut [u16], &mut [u16]) -> Refused<Judgement>,
+}
+
+/// The iterator's entries. At each of them it says how many remain.
+fn collected(cells: &[u16], list: &[u8]) -> Refused<Vec<Entry>> {
+    let mut entries = entries(cells, list)?;
+    let mut given = Vec::new();
+    let count = entries.len();
+    while let Some(entry) = entries.next() {
+        given.push(entry);
+        assert_eq!(entries.len(), count - given.len());
+    }
+    assert_eq!(entries.next(), None);
+    Ok(given)
 }
 
 pub const LIBRARY: Calls = Calls {
@@ -33,6 +48,8 @@ pub const LIBRARY: Calls = Calls {
     sets,
     check_list,
     entry,
+    entries: collected,
+    next_entry,
     judge,
 };
 
@@ -46,5 +63,7 @@ pub const INDEPENDENT: Calls = Calls {
     sets: calls::sets,
     check_list: calls::check_list,
     entry: calls::entry,
+    entries: calls::entries,
+    next_entry: calls::next_entry,
     judge: calls::judge,
 };

@@ -161,15 +161,24 @@ pub fn sets(
     Ok(book.states())
 }
 
-pub fn check_list(cells: &[u16], bytes: &[u8]) -> Result<Entries, Refusal> {
+pub fn check_list(cells: &[u16], bytes: &[u8]) -> Result<Rest, Refusal> {
     let book = Book::from_cells(cells)?;
-    Ok(list::decode(bytes, book.sizes.terminals)?.summary())
+    Ok(list::decode(bytes, book.sizes.terminals)?.rest())
 }
 
 pub fn entry(cells: &[u16], bytes: &[u8], index: usize) -> Result<Option<Entry>, Refusal> {
     let book = Book::from_cells(cells)?;
     let list = list::decode(bytes, book.sizes.terminals)?;
     Ok(list.entries.get(index).copied())
+}
+
+pub fn entries(cells: &[u16], bytes: &[u8]) -> Result<Vec<Entry>, Refusal> {
+    let book = Book::from_cells(cells)?;
+    Ok(list::decode(bytes, book.sizes.terminals)?.entries)
+}
+
+pub fn next_entry(bytes: &[u8], rest: Rest) -> Option<(Entry, Rest)> {
+    list::next(bytes, rest)
 }
 
 pub fn judge(

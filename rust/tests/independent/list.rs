@@ -1,7 +1,7 @@
 //! Lists of sentences.
 
 use super::numbers::{refuse, Bytes, Source};
-use purlquartz::{Entries, Entry, Refusal};
+use purlquartz::{Entry, Refusal, Rest};
 
 pub struct List {
     pub first: usize,
@@ -9,10 +9,10 @@ pub struct List {
 }
 
 impl List {
-    pub fn summary(&self) -> Entries {
-        Entries {
-            first: self.first,
-            count: self.entries.len(),
+    pub fn rest(&self) -> Rest {
+        Rest {
+            offset: self.first,
+            left: self.entries.len(),
         }
     }
 }
@@ -33,6 +33,16 @@ pub fn decode(bytes: &[u8], terminals: u16) -> Result<List, Refusal> {
         Some(place) => refuse(6, place),
         None => Ok(List { first, entries }),
     }
+}
+
+/// The entry at a rest, with the rest after it. What is read has to be an entry only of some book,
+/// and a book has at most 32 terminals.
+pub fn next(bytes: &[u8], rest: Rest) -> Option<(Entry, Rest)> {
+    let left = rest.left.checked_sub(1)?;
+    let mut source = Bytes::from(bytes, rest.offset);
+    let entry = decode_entry(&mut source, 32).ok()?;
+    let offset = source.offset();
+    Some((entry, Rest { offset, left }))
 }
 
 fn decode_entry(source: &mut Bytes, terminals: u16) -> Result<Entry, Refusal> {

@@ -27,7 +27,11 @@ pub struct Bytes<'a> {
 
 impl<'a> Bytes<'a> {
     pub fn new(bytes: &'a [u8]) -> Self {
-        Bytes { bytes, offset: 0 }
+        Bytes::from(bytes, 0)
+    }
+
+    pub fn from(bytes: &'a [u8], offset: usize) -> Self {
+        Bytes { bytes, offset }
     }
 
     pub fn offset(&self) -> usize {
@@ -40,7 +44,7 @@ impl Source for Bytes<'_> {
         let place = self.offset;
         let mut value = 0u32;
         for group in 0..3 {
-            let Some(&byte) = self.bytes.get(place + group) else {
+            let Some(&byte) = self.bytes.get(place.saturating_add(group)) else {
                 return refuse(1, place);
             };
             value |= u32::from(byte & 0x7f) << (7 * group);

@@ -1,5 +1,4 @@
 -- `purlquartz::told::tell_entry` meets its contract: case by case. Assumes nothing.
-use mathlib.Core.Path.{refl}
 use borrow.Author.Needs.{needs}
 use Rattle.purlquartz.proofs.told.tell_entry.Statement.{statement}
 use Rattle.purlquartz.proofs.told.tell_entry.Tie as tie
@@ -8,7 +7,10 @@ returns : tie.Need-returns
 returns c = rw (c .before .before .e .given .1) (c .tell-refusal .ensures)
 
 returns-2 : tie.Need-returns-2
-returns-2 c = rw (c .before .e2 .given .1) refl
+returns-2 c = rw (c .before .before .e2 .given .1) (c .few .ensures)
+
+returns-3 : tie.Need-returns-3
+returns-3 c = rw (c .before .enum-told .given .1) (c .few2 .ensures)
 
 pub tell-entry-spec : {M : Type 1} → statement M
 tell-entry-spec =
@@ -17,7 +19,9 @@ tell-entry-spec =
     (λ c. search needs)
     (λ c κs. search needs)
     (λ c. search needs)
+    (λ c κs. search needs)
     (λ c. search needs)
+    (λ c κs. search needs)
     returns
     returns-2
-    (λ c. search needs))
+    returns-3)

@@ -1,5 +1,4 @@
 -- `purlquartz::told::tell_found` meets its contract: case by case. Assumes nothing.
-use mathlib.Core.Path.{refl}
 use borrow.Author.Needs.{needs}
 use Rattle.purlquartz.proofs.told.tell_found.Statement.{statement}
 use Rattle.purlquartz.proofs.told.tell_found.Tie as tie
@@ -7,8 +6,14 @@ use Rattle.purlquartz.proofs.told.tell_found.Tie as tie
 returns : tie.Need-returns
 returns c = rw (c .before .before .f .given .1) (c .tell-refusal .ensures)
 
+returns-2 : tie.Need-returns-2
+returns-2 c = rw (c .before .enum-told .given .1) (c .few .ensures)
+
+returns-3 : tie.Need-returns-3
+returns-3 c = rw (c .before .enum-told2 .given .1) (c .few2 .ensures)
+
 returns-4 : tie.Need-returns-4
-returns-4 c = rw (c .before .f2 .given .1) refl
+returns-4 c = rw (c .before .before .f2 .given .1) (c .few3 .ensures)
 
 pub tell-found-spec : {M : Type 1} → statement M
 tell-found-spec =
@@ -17,9 +22,12 @@ tell-found-spec =
     (λ c. search needs)
     (λ c κs. search needs)
     (λ c. search needs)
+    (λ c κs. search needs)
     (λ c. search needs)
+    (λ c κs. search needs)
     (λ c. search needs)
+    (λ c κs. search needs)
     returns
-    (λ c. search needs)
-    (λ c. search needs)
+    returns-2
+    returns-3
     returns-4)

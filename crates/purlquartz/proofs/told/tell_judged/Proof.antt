@@ -1,5 +1,4 @@
 -- `purlquartz::told::tell_judged` meets its contract: case by case. Assumes nothing.
-use mathlib.Core.Path.{refl}
 use borrow.Author.Needs.{needs}
 use Rattle.purlquartz.proofs.told.tell_judged.Statement.{statement}
 use Rattle.purlquartz.proofs.told.tell_judged.Tie as tie
@@ -7,11 +6,14 @@ use Rattle.purlquartz.proofs.told.tell_judged.Tie as tie
 returns : tie.Need-returns
 returns c = rw (c .before .before .j .given .1) (c .tell-refusal .ensures)
 
+returns-2 : tie.Need-returns-2
+returns-2 c = rw (c .before .enum-told .given .1) (c .few .ensures)
+
 returns-3 : tie.Need-returns-3
-returns-3 c = rw (c .before .j2 .given .1) refl
+returns-3 c = rw (c .before .before .j2 .given .1) (c .few2 .ensures)
 
 returns-4 : tie.Need-returns-4
-returns-4 c = rw (c .before .j3 .given .1) refl
+returns-4 c = rw (c .before .before .j3 .given .1) (c .few3 .ensures)
 
 returns-5 : tie.Need-returns-5
 returns-5 c = rw (c .before .before .before .before .j4 .given .1, ← c .before .before .kind-of .ensures, ← c .before .stop-of .ensures) (c .tell-wrong .ensures)
@@ -23,15 +25,18 @@ tell-judged-spec =
     (λ c. search needs)
     (λ c κs. search needs)
     (λ c. search needs)
+    (λ c κs. search needs)
     (λ c. search needs)
     (λ c. search needs)
+    (λ c κs. search needs)
     (λ c. search needs)
+    (λ c κs. search needs)
     (λ c. search needs)
     (λ c κs. search needs)
     (λ c κs. search needs)
     (λ c κs. search needs)
     returns
-    (λ c. search needs)
+    returns-2
     returns-3
     returns-4
     returns-5)

@@ -1,0 +1,21 @@
+-- `purlquartz::told::tell_next` meets its contract: case by case. Assumes nothing.
+use mathlib.Core.Path.{refl}
+use borrow.Author.Needs.{needs}
+use Rattle.purlquartz.proofs.told.tell_next.Statement.{statement}
+use Rattle.purlquartz.proofs.told.tell_next.Tie as tie
+
+returns : tie.Need-returns
+returns c = rw (c .before .n .given .1) refl
+
+returns-2 : tie.Need-returns-2
+returns-2 c = rw (c .before .enum-told .given .1) (c .few .ensures)
+
+pub tell-next-spec : {M : Type 1} → statement M
+tell-next-spec =
+    tie.close
+    (tie.spec
+    (λ c. search needs)
+    (λ c. search needs)
+    (λ c κs. search needs)
+    returns
+    returns-2)
