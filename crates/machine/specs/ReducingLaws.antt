@@ -6,7 +6,7 @@ use native.Mathlib.Omega.{arith}
 use borrow.Author.Tests.{lt-ltb, le-ltb}
 use lib.ListN.{length, set}
 use Rattle.book.specs.Tables.{Tables}
-use Rattle.machine.specs.Machine.{Move, shifts, reduces, next}
+use Rattle.machine.specs.Machine.{Move, shifts, next}
 use Rattle.machine.specs.Run.{Limited, stops, toShift, limited, stopped, reducing}
 use Rattle.machine.specs.Stack.{stackOf, StackIn, StackFrom, Looked, Turned, Held}
 use Rattle.machine.specs.StackLaws.{stack-length, stack-push, push}

@@ -19,6 +19,7 @@ use Rattle.machine.specs.declared.Ran.the-variants.{Ended, Refused}
 abbrev pub stopped : List ℕ → ℕ → ℕ → Stop
 stopped st a taken = record { state = getD st 0 0; symbol = a; taken = taken }
 
+-- .. which every ending holds
 abbrev pub stopOf : Ending → Stop
 stopOf (Accepted stop) = stop
 stopOf (Error stop) = stop
@@ -88,7 +89,5 @@ stackLeft st lent = reverse st ++ replicate (1024 - length st) 0 ++ drop 1024 le
 -- what `run` answers and leaves in the lent stack cells. 'The stack starts as state 0 alone'; a refusal 'leaves all lent memory as it found it'
 unfoldable pub running : List ℕ → List ℕ → ℕ → List ℕ → Ran × List ℕ
 running cells w z lent =
-    elim (runAdmits w z (length lent) (checked (ofCells cells))) [
-      | Faulty r ↦ (Refused r, lent)
-      | Valid d ↦ let (e, st) = runs (tablesOf cells) z w 0 (0 ∷ []) in (Ended e, stackLeft st lent)
-    ]
+    elim (runAdmits w z (length lent) (checked (ofCells cells)))
+    [ Faulty r ↦ (Refused r, lent) | Valid d ↦ let (e, st) = runs (tablesOf cells) z w 0 (0 ∷ []) in (Ended e, stackLeft st lent) ]
