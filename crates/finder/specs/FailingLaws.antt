@@ -25,7 +25,7 @@ decides-one {a} {b} x y = both a b (λ e. y .1 (x .0 e)) (λ e. x .1 (y .0 e))
 abbrev pub failsIn : List ℕ → List ℕ → ℕ → ℕ → ℕ → Bool
 failsIn cells dist t s z = isError (tablesOf cells .act s z) && member (maskIn dist t s) z
 
-is-error : (x : Action) → isError x ≡ true → x ≡ Error
+pub is-error : (x : Action) → isError x ≡ true → x ≡ Error
 is-error Error e = refl
 is-error Accept e = absurd (false≢true e)
 is-error (Shift s) e = absurd (false≢true e)

@@ -4,6 +4,7 @@ pub mod Decimal
 pub mod DecimalLaws
 pub mod Line
 pub mod LineLaws
+pub mod StateLaws
 pub mod Prepare
 pub mod PrepareLaws
 pub mod Put

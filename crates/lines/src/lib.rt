@@ -3,12 +3,14 @@ mod counts;
 mod line;
 mod opening;
 mod put;
+mod state;
 
 pub use counts::header_counts;
 pub use line::put_header;
 pub use line::put_pair;
 pub use line::put_refusal;
 pub use opening::prepare;
+pub use state::put_state;
 
 // The header's counts: error actions and failing pairs.
 pub struct Header {

@@ -8,7 +8,7 @@ header-counts-requires : tie.Need-header-counts-requires
 header-counts-requires c κs = let r = prepared-ready (c .before .before .before .before .before .prepare .ensures) (c .before .before .d .given .1) in (r .holds, r .crossings)
 
 print-states-requires : tie.Need-print-states-requires
-print-states-requires c κs = let r = prepared-ready (c .before .before .before .before .before .before .before .before .prepare .ensures) (c .before .before .before .before .before .d .given .1) in (r .holds, r .crossings)
+print-states-requires c κs = let r = prepared-ready (c .before .before .before .before .before .before .before .before .before .prepare .ensures) (c .before .before .before .before .before .before .d .given .1) in (r .holds, r .crossings)
 
 pub print-cells-spec : {M : Type 1} → statement M
 print-cells-spec =
@@ -24,5 +24,6 @@ print-cells-spec =
     (λ c κs. search needs)
     (λ c. search needs)
     print-states-requires
+    (λ c. search needs)
     (λ c. search needs)
     (λ c. search needs))

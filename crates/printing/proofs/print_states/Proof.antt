@@ -10,25 +10,16 @@ Inv-loop cells d table count s₀ s = s ≤ count
 abbrev μ-loop : tie.MeasureT-loop
 μ-loop cells d table count s₀ s = count - s
 
-loop-holds : tie.Need-loop-holds Inv-loop μ-loop
-loop-holds c = search needs
-
-print-state-requires : tie.Need-print-state-requires Inv-loop μ-loop
-print-state-requires c κs = search needs
-
-add-s : tie.Need-add-s Inv-loop μ-loop
-add-s c = search needs
-
-loop-less : tie.Need-loop-less Inv-loop μ-loop
-loop-less c = search needs
-
-loop-again : tie.Need-loop-again Inv-loop μ-loop
-loop-again c = search needs
-
-returns : tie.Need-returns Inv-loop μ-loop
-returns c = search needs
-
 pub print-states-spec : {M : Type 1} → statement M
 print-states-spec =
     tie.close
-    (tie.spec Inv-loop μ-loop loop-holds print-state-requires add-s loop-less loop-again returns)
+    (tie.spec
+    Inv-loop
+    μ-loop
+    (λ c. search needs)
+    (λ c κs. search needs)
+    (λ c. search needs)
+    (λ c. search needs)
+    (λ c. search needs)
+    (λ c. search needs)
+    (λ c. search needs))
