@@ -3,8 +3,6 @@ mod parts;
 mod words;
 
 pub use parts::part_at;
-pub use words::bytes;
-pub use words::cell;
 pub use words::label;
 pub use words::line;
 pub use words::refusal;

@@ -16,12 +16,8 @@ pub fn label(s: &[u8], n: usize) {
     io::print_decimal(1, n as u64);
 }
 
-// The same for a byte, for a cell, and for a mask.
+// The same for a byte and for a mask.
 fn byte(s: &[u8], v: u8) {
-    label(s, v as usize);
-}
-
-pub fn cell(s: &[u8], v: u16) {
     label(s, v as usize);
 }
 
@@ -32,12 +28,4 @@ pub fn word(s: &[u8], v: u32) {
 pub fn refusal(r: Refusal) {
     byte(b" refused ", r.number);
     label(b" place ", r.place);
-}
-
-pub fn bytes(s: &[u8]) {
-    let mut i: usize = 0;
-    while i < s.len() {
-        byte(b" ", s[i]);
-        i += 1;
-    }
 }

@@ -1,0 +1,276 @@
+// The calls of the library for C. Each prints its name, its answer, and what each lent part holds then. The last numbers of a line say how
+// much is lent; the memory holds the same value everywhere before the call.
+//
+//   read n              bytes to n cells
+//   check
+//   write n             cells to n bytes
+//   run z n             the bytes with lookahead z, and n stack cells
+//   find s z n m        one pair, n work cells and m bytes
+//   map n m             n work cells and m cells
+//   sets n m k          n work cells, m masks and k sizes
+//   check_list          the bytes as a list
+//   entry k
+//   next_entry i k      from offset i on, with k left
+//   judge n m           n work cells and m stack cells
+ghost use mathlib.Core.Path.{_≡_};
+ghost use Prim.Native.Nat.{_≤_};
+ghost use lib.ListN.{length};
+use crate::numbers::cell;
+use crate::numbers::size;
+use crate::say;
+use purlquartz::purlquartz_check;
+use purlquartz::purlquartz_check_list;
+use purlquartz::purlquartz_entry;
+use purlquartz::purlquartz_find;
+use purlquartz::purlquartz_judge;
+use purlquartz::purlquartz_map;
+use purlquartz::purlquartz_next_entry;
+use purlquartz::purlquartz_read;
+use purlquartz::purlquartz_run;
+use purlquartz::purlquartz_sets;
+use purlquartz::purlquartz_write;
+
+// What lent cells and masks hold, and lent bytes; no call writes it.
+const CELL: u16 = 43690;
+
+const BYTE: u8 = 170;
+
+const WORD: u32 = 43690;
+
+// The most of each that is lent.
+const WORK: usize = 65536;
+
+const CELLS: usize = 8600;
+
+const BYTES: usize = 16800;
+
+const MASKS: usize = 200;
+
+fn free_work() -> [u16; WORK]
+    ensures { λ r. ⌜ 65536 ≡ length r ⌝ }
+{
+    [CELL; WORK]
+}
+
+fn free_cells() -> [u16; CELLS]
+    ensures { λ r. ⌜ 8600 ≡ length r ⌝ }
+{
+    [CELL; CELLS]
+}
+
+fn free_bytes() -> [u8; BYTES]
+    ensures { λ r. ⌜ 16800 ≡ length r ⌝ }
+{
+    [BYTE; BYTES]
+}
+
+fn free_words() -> [u32; MASKS]
+    ensures { λ r. ⌜ 200 ≡ length r ⌝ }
+{
+    [WORD; MASKS]
+}
+
+// So many as the line says, and no more than there are.
+fn room(args: &[u32], k: usize, most: usize) -> usize
+    ensures { λ r. ⌜ r ≤ most ⌝ }
+{
+    let n = size(args, k);
+    if n < most {
+        return n;
+    }
+    most
+}
+
+fn read_to(bytes: &[u8], cells: &mut [u16]) {
+    let mut answer = [0u64; 8];
+    purlquartz_read(bytes, cells, &mut answer);
+    say::answer(b"read", &answer);
+    say::cells(cells);
+}
+
+fn read(args: &[u32], bytes: &[u8]) {
+    let mut cells = free_cells();
+    let n = room(args, 0, CELLS);
+    read_to(bytes, &mut cells[..n]);
+}
+
+fn check(cells: &[u16]) {
+    let mut answer = [0u64; 8];
+    purlquartz_check(cells, &mut answer);
+    say::answer(b"check", &answer);
+}
+
+fn write_to(cells: &[u16], bytes: &mut [u8]) {
+    let mut answer = [0u64; 8];
+    purlquartz_write(cells, bytes, &mut answer);
+    say::answer(b"write", &answer);
+    say::bytes(bytes);
+}
+
+fn write(args: &[u32], cells: &[u16]) {
+    let mut bytes = free_bytes();
+    let n = room(args, 0, BYTES);
+    write_to(cells, &mut bytes[..n]);
+}
+
+fn run_in(cells: &[u16], sentence: &[u8], lookahead: u16, stack: &mut [u16]) {
+    let mut answer = [0u64; 8];
+    purlquartz_run(cells, sentence, lookahead, stack, &mut answer);
+    say::answer(b"run", &answer);
+    say::cells(stack);
+}
+
+fn run(args: &[u32], cells: &[u16], sentence: &[u8]) {
+    let mut stack = free_cells();
+    let n = room(args, 1, CELLS);
+    run_in(cells, sentence, cell(args, 0), &mut stack[..n]);
+}
+
+fn find_in(cells: &[u16], state: u16, lookahead: u16, work: &mut [u16], buffer: &mut [u8]) {
+    let mut answer = [0u64; 8];
+    purlquartz_find(cells, state, lookahead, work, buffer, &mut answer);
+    say::answer(b"find", &answer);
+    say::cells(work);
+    say::bytes(buffer);
+}
+
+fn find(args: &[u32], cells: &[u16]) {
+    let mut work = free_work();
+    let mut buffer = free_bytes();
+    let s = cell(args, 0);
+    let z = cell(args, 1);
+    let n = room(args, 2, WORK);
+    let m = room(args, 3, BYTES);
+    find_in(cells, s, z, &mut work[..n], &mut buffer[..m]);
+}
+
+fn map_in(cells: &[u16], work: &mut [u16], map: &mut [u16]) {
+    let mut answer = [0u64; 8];
+    purlquartz_map(cells, work, map, &mut answer);
+    say::answer(b"map", &answer);
+    say::cells(work);
+    say::cells(map);
+}
+
+fn map(args: &[u32], cells: &[u16]) {
+    let mut work = free_work();
+    let mut map = free_cells();
+    let n = room(args, 0, WORK);
+    let m = room(args, 1, CELLS);
+    map_in(cells, &mut work[..n], &mut map[..m]);
+}
+
+fn sets_in(cells: &[u16], work: &mut [u16], masks: &mut [u32], sizes: &mut [u32]) {
+    let mut answer = [0u64; 8];
+    purlquartz_sets(cells, work, masks, sizes, &mut answer);
+    say::answer(b"sets", &answer);
+    say::cells(work);
+    say::words(masks);
+    say::words(sizes);
+}
+
+fn sets(args: &[u32], cells: &[u16]) {
+    let mut work = free_work();
+    let mut masks = free_words();
+    let mut sizes = free_words();
+    let n = room(args, 0, WORK);
+    let m = room(args, 1, MASKS);
+    let k = room(args, 2, MASKS);
+    sets_in(cells, &mut work[..n], &mut masks[..m], &mut sizes[..k]);
+}
+
+fn check_list(cells: &[u16], list: &[u8]) {
+    let mut answer = [0u64; 8];
+    purlquartz_check_list(cells, list, &mut answer);
+    say::answer(b"check_list", &answer);
+}
+
+fn entry(args: &[u32], cells: &[u16], list: &[u8]) {
+    let mut answer = [0u64; 8];
+    purlquartz_entry(cells, list, size(args, 0), &mut answer);
+    say::answer(b"entry", &answer);
+}
+
+fn next_entry(args: &[u32], list: &[u8]) {
+    let mut answer = [0u64; 8];
+    purlquartz_next_entry(list, size(args, 0), size(args, 1), &mut answer);
+    say::answer(b"next_entry", &answer);
+}
+
+fn judge_in(cells: &[u16], list: &[u8], work: &mut [u16], stack: &mut [u16]) {
+    let mut answer = [0u64; 8];
+    purlquartz_judge(cells, list, work, stack, &mut answer);
+    say::answer(b"judge", &answer);
+    say::cells(work);
+    say::cells(stack);
+}
+
+fn judge(args: &[u32], cells: &[u16], list: &[u8]) {
+    let mut work = free_work();
+    let mut stack = free_cells();
+    let n = room(args, 0, WORK);
+    let m = room(args, 1, CELLS);
+    judge_in(cells, list, &mut work[..n], &mut stack[..m]);
+}
+
+// The calls on a book. Answers whether the word is one of them.
+fn on_book(word: &[u8], args: &[u32], cells: &[u16], bytes: &[u8]) -> bool {
+    if check::same(word, b"read") {
+        read(args, bytes);
+        return true;
+    }
+    if check::same(word, b"check") {
+        check(cells);
+        return true;
+    }
+    if check::same(word, b"write") {
+        write(args, cells);
+        return true;
+    }
+    if check::same(word, b"run") {
+        run(args, cells, bytes);
+        return true;
+    }
+    if check::same(word, b"find") {
+        find(args, cells);
+        return true;
+    }
+    if check::same(word, b"map") {
+        map(args, cells);
+        return true;
+    }
+    if check::same(word, b"sets") {
+        sets(args, cells);
+        return true;
+    }
+    false
+}
+
+fn on_list(word: &[u8], args: &[u32], cells: &[u16], list: &[u8]) -> bool {
+    if check::same(word, b"check_list") {
+        check_list(cells, list);
+        return true;
+    }
+    if check::same(word, b"entry") {
+        entry(args, cells, list);
+        return true;
+    }
+    if check::same(word, b"next_entry") {
+        next_entry(args, list);
+        return true;
+    }
+    if check::same(word, b"judge") {
+        judge(args, cells, list);
+        return true;
+    }
+    false
+}
+
+pub fn call(word: &[u8], args: &[u32], cells: &[u16], bytes: &[u8]) {
+    if on_book(word, args, cells, bytes) {
+        trial::text(b"\n");
+    }
+    if on_list(word, args, cells, bytes) {
+        trial::text(b"\n");
+    }
+}
