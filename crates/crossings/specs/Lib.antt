@@ -1,6 +1,8 @@
 pub mod Crossings
 pub mod Position
 pub mod PositionLaws
+pub mod Falling
+pub mod FallingLaws
 pub mod Pass
 pub mod PassLaws
 pub mod ReductionLaws

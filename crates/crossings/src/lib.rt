@@ -5,4 +5,4 @@ mod production;
 mod reduction;
 
 pub use crossing::crossings;
-pub use reduction::most;
+pub use reduction::lower;

@@ -4,11 +4,11 @@ ghost use Prim.Native.Nat.{ℕ, suc, _≤_, _<_};
 ghost use Rattle.book.specs.Tables.{tablesOf};
 ghost use Rattle.book.specs.TablesLaws.{Holds};
 ghost use Rattle.crossings.specs.Pass.{Longest};
-use crate::reduction::most;
 use book::Sizes;
 use book::goto_at;
 use book::left_side;
 use book::production_length;
+use walk::most;
 
 // At least r, 32 at most, and at least the length of production p if q has a goto for its left side.
 fn longer(cells: &[u16], d: Sizes, q: usize, p: usize, r: usize) -> usize

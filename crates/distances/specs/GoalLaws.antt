@@ -25,7 +25,7 @@ use Rattle.layers.specs.Layer.{entryIn}
 use Rattle.layers.specs.Step.{Step, Upto}
 use Rattle.layers.specs.StepLaws.{step-none, step-as}
 use Rattle.crossings.specs.Crossings.{CrossingTable}
-use Rattle.crossings.specs.Pass.{Stored, kept, stored, Each}
+use Rattle.crossings.specs.Falling.{Stored, kept, stored, Each}
 use Rattle.distances.specs.Distances.{distanceIn, Goals, GoalIn, GoalTable}
 use Rattle.distances.specs.DistancesLaws.{distance-entry, distance-out, distance-other}
 use Rattle.distances.specs.Pass.{Bounded, Marked, From, Drawn, Lessened, LessenedUpto, PastShift, PastGoto, ByShift, by-shift, ByGoto, by-goto, Nearest}

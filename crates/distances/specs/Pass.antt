@@ -13,15 +13,14 @@ use Rattle.walk.specs.Claims.{Claims, Claimed, Arrival}
 use Rattle.walk.specs.Layers.{Sooner}
 use Rattle.layers.specs.Layer.{entryIn}
 use Rattle.layers.specs.Step.{Step, Upto}
-use Rattle.crossings.specs.Pass.{total}
+use Rattle.crossings.specs.Falling.{Fallen}
 use Rattle.distances.specs.Distances.{distanceIn}
 
--- entries are lowered to candidates in P: the sum of the entries falls by n at least, and where n is 0 none was lowered
+-- entries are lowered to candidates in P
 pub record Merged (σ : Scale) (P : ℕ → ℕ → ℕ → Type 0) (n : ℕ) (old new : List ℕ) : Type 0 where
   pub size : length new ≡ 4096
   pub step : Step σ P (entryIn old) (entryIn new)
-  pub sum : total new + n ≤ total old
-  pub same : n ≡ 0 → new ≡ old
+  pub fallen : Fallen n old new
 
 -- turn z over row q of a layer: its cost there
 abbrev pub Offer : (ℕ → ℕ → ℕ) → ℕ → ℕ → ℕ → ℕ → ℕ → Type 0
@@ -58,13 +57,6 @@ pub record Drawn (σ : Scale) (B : Tables) (claim : Claims) (old new : List ℕ)
   pub bounded : Bounded σ (B .terminals) new
   pub fall : (q a : ℕ) → a < B .terminals → distanceIn σ new q a ≤ distanceIn σ old q a
   pub drawn : (q a : ℕ) → a < B .terminals → (distanceIn σ new q a ≡ unreached σ) ⊎ From σ B claim (distanceIn σ old) q a (distanceIn σ new q a)
-
--- a pass over them; D is what holds where none was lowered
-pub record Pass (σ : Scale) (B : Tables) (claim : Claims) (D : List ℕ → Type 0) (n : ℕ) (old new : List ℕ) : Type 0 where
-  pub drawn : Drawn σ B claim old new
-  pub sum : total new + n ≤ total old
-  pub same : n ≡ 0 → new ≡ old
-  pub done : n ≡ 0 → D new
 
 -- r is the least of v and those of the candidates in P that are below unreached
 abbrev pub Lessened : Scale → (ℕ → Type 0) → ℕ → ℕ → Type 0

@@ -17,18 +17,18 @@ use Rattle.walk.specs.ClaimsLaws.{claimed-next, claimed-append, claimed-shift, 
 use Rattle.walk.specs.Layers.{Sooner, from-shift, from-goto}
 use Rattle.layers.specs.Step.{Upto}
 use Rattle.layers.specs.StepLaws.{step-zero, step-more, step-least, step-none}
-use Rattle.crossings.specs.Pass.{Stored, kept, stored, Each}
-use Rattle.crossings.specs.PassLaws.{total-set}
+use Rattle.crossings.specs.Falling.{Stored, kept, stored, Pass}
+use Rattle.crossings.specs.FallingLaws.{fallen-none, fallen-set, fallen-join, pass-none}
 use Rattle.distances.specs.Distances.{distanceIn}
 use Rattle.distances.specs.DistancesLaws.{distance-read, distance-same, distance-other}
-use Rattle.distances.specs.Pass.{Merged, Bounded, From, Drawn, Pass}
+use Rattle.distances.specs.Pass.{Merged, Bounded, From, Drawn}
 
 -- ---- entries lowered to those of a layer
 pub merged-none : {σ : Scale} {P : ℕ → ℕ → ℕ → Type 0} {l : List ℕ} → length l ≡ 4096 → ((q z w : ℕ) → P q z w → z < 32 → w < unreached σ → ⊥) → Merged σ P 0 l l
-merged-none h f = record { size = h; step = step-none f; sum = omega arith; same = λ e. refl }
+merged-none h f = record { size = h; step = step-none f; fallen = fallen-none }
 
 pub merged-zero : {σ : Scale} {P : ℕ → ℕ → ℕ → ℕ → Type 0} {l : List ℕ} → length l ≡ 4096 → Merged σ (Upto P 0) 0 l l
-merged-zero h = record { size = h; step = step-zero; sum = omega arith; same = λ e. refl }
+merged-zero h = record { size = h; step = step-zero; fallen = fallen-none }
 
 -- one store; a cell that is kept holds the least already
 pub merged-store : {σ : Scale} {old new : List ℕ} {r : ℕ} (g j v w : ℕ) → g < 128 → j < 32 → length old ≡ 4096 → v ≡ w → Stored (g * 32 + j) v old r new
@@ -36,23 +36,20 @@ pub merged-store : {σ : Scale} {old new : List ℕ} {r : ℕ} (g j v w : ℕ) �
 merged-store {σ} {old} g j v w hg hj h e (kept l) = record {
   size = h;
   step = rw (set-getD old (g * 32 + j) 0) at (step-least {σ = σ} old g j w (getD old (g * 32 + j) 0) v (getD old (g * 32 + j) 0) hj (omega arith) (omega arith) refl e);
-  sum = omega arith;
-  same = λ o. refl;
+  fallen = fallen-none;
 }
 merged-store {old} g j v w hg hj h e (stored l) = record {
   size = length-set old (g * 32 + j) v ∙ h;
   step = step-least old g j w (getD old (g * 32 + j) 0) v v hj (omega arith) (omega arith) refl e;
-  sum = omega (arith, total-set old (g * 32 + j) v (omega arith));
-  same = λ o. absurd (omega (arith, o));
+  fallen = fallen-set old (g * 32 + j) v (omega arith) l;
 }
 
 pub merged-more : {σ : Scale} (P : ℕ → ℕ → ℕ → ℕ → Type 0) (i : ℕ) {n r m : ℕ} {a b c : List ℕ} → m ≡ max n r → Merged σ (Upto P i) n a b → Merged σ (P i) r b c
     → Merged σ (Upto P (i + 1)) m a c
-merged-more P i {n} {r} e p q = rw e record {
+merged-more P i e p q = rw e record {
   size = q .size;
   step = step-more P i (p .step) (q .step);
-  sum = omega arith;
-  same = λ o. q .same (omega (arith, o)) ∙ p .same (omega (arith, o));
+  fallen = fallen-join (p .fallen) (q .fallen);
 }
 
 pub merged-done : {σ : Scale} (P : ℕ → ℕ → ℕ → ℕ → Type 0) {i n k : ℕ} {a b : List ℕ} → i ≤ k → k ≤ i → Merged σ (Upto P i) n a b → Merged σ (Upto P k) n a b
@@ -150,34 +147,15 @@ module _ {σ : Scale} {B : Tables} {claim : Claims} where
       drawn q′ z h (no i) j = rw (other q′ z h (λ e f. i e)) (same .drawn q′ z h)
 
   -- ---- passes over them
-  pub pass-none : {D : List ℕ → Type 0} {l : List ℕ} → Bounded σ (B .terminals) l → D l → Pass σ B claim D 0 l l
-  pass-none b x = record { drawn = drawn-same b; sum = omega arith; same = λ e. refl; done = λ e. x }
+  pub pass-idle : {D : List ℕ → Type 0} {l : List ℕ} → Bounded σ (B .terminals) l → D l → Pass (Drawn σ B claim) D 0 l l
+  pass-idle b x = pass-none (drawn-same b) x
 
   pub pass-store : {D : List ℕ → Type 0} {old new : List ℕ} {r : ℕ} (q a v : ℕ) → B .terminals ≤ 32 → q < 128 → a < B .terminals
       → (v ≡ unreached σ) ⊎ Sooner σ B claim (distanceIn σ old) q a v → Bounded σ (B .terminals) old → (distanceIn σ old q a ≤ v → D old)
-      → Stored (q * 32 + a) v old r new → Pass σ B claim D r old new
-  pass-store {old} q a v small hq ha x b f (kept l) = pass-none b (f (omega (arith, distance-read σ old q a hq)))
+      → Stored (q * 32 + a) v old r new → Pass (Drawn σ B claim) D r old new
+  pass-store {old} q a v small hq ha x b f (kept l) = pass-idle b (f (omega (arith, distance-read σ old q a hq)))
   pass-store {old} q a v small hq ha x b f (stored l) = record {
-    drawn = drawn-set q a v small hq ha l x b;
-    sum = omega (arith, total-set old (q * 32 + a) v (omega (arith, b .size)));
-    same = λ e. absurd (omega (arith, e));
+    keeps = drawn-set q a v small hq ha l x b;
+    fallen = fallen-set old (q * 32 + a) v (omega (arith, b .size)) l;
     done = λ e. absurd (omega (arith, e));
   }
-
-  -- one turn more
-  pub pass-more : (D : ℕ → List ℕ → Type 0) (i : ℕ) {n r m : ℕ} {a b c : List ℕ} → m ≡ max n r → Pass σ B claim (Each D i) n a b → Pass σ B claim (D i) r b c
-      → Pass σ B claim (Each D (i + 1)) m a c
-  pass-more D i {n} {r} {b} {c} e p q = rw e record {
-    drawn = drawn-join (p .drawn) (q .drawn);
-    sum = omega arith;
-    same = λ o. q .same (omega (arith, o)) ∙ p .same (omega (arith, o));
-    done = λ o j h. turn (omega (arith, o)) (omega (arith, o)) j h (ℕ-discrete j i);
-  }
-    where
-      turn : n ≡ 0 → r ≡ 0 → (j : ℕ) → j < i + 1 → Dec (j ≡ i) → D j c
-      turn z y j h (yes k) = rw k (q .done y)
-      turn z y j h (no k) = rw (q .same y) (p .done z j (omega arith))
-
-  -- the loop is left with every turn done
-  pub pass-done : (D : ℕ → List ℕ → Type 0) {i n k : ℕ} {a b : List ℕ} → i ≤ k → k ≤ i → Pass σ B claim (Each D i) n a b → Pass σ B claim (Each D k) n a b
-  pass-done D {n} {a} {b} h g p = subst (λ (j : ℕ). Pass σ B claim (Each D j) n a b) (le-antisymm h g) p

@@ -1,5 +1,4 @@
 // Distances: from the start to every pair, and from every pair to a set of goal pairs.
-mod entry;
 mod goal;
 mod pair;
 mod start;

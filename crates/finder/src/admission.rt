@@ -9,6 +9,8 @@ ghost use Rattle.finder.specs.Finder.{workCells, refused, admitsPair, ad
 use book::Checked;
 use book::Sizes;
 use number::Refusal;
+use walk::LIMIT;
+use walk::fill;
 
 // How many work cells a search needs.
 pub fn work_cells(d: Sizes) -> usize
@@ -40,7 +42,7 @@ pub fn admit_pair(cells: &[u16], s: u16, z: u16, work: usize, buffer: usize) -> 
     if work < work_cells(d) {
         return refuse(13);
     }
-    if buffer < 1000 {
+    if buffer < LIMIT as usize {
         return refuse(12);
     }
     found
@@ -86,9 +88,5 @@ pub fn clear(work: &mut [u16], n: usize)
     requires { ⌜ n ≤ length (now work) ⌝ }
     ensures { λ _. ⌜ now (work .exit) ≡ over (replicate n 0) (now (work .entry)) ⌝ }
 {
-    let mut i: usize = 0;
-    while i < n {
-        work[i] = 0;
-        i += 1;
-    }
+    fill(work, 0, n, 0);
 }

@@ -4,6 +4,7 @@ ghost use Prim.Native.Nat.{_≤_, _<_};
 ghost use lib.ListN.{length};
 ghost use Rattle.book.specs.Tables.{tablesOf};
 ghost use Rattle.book.specs.TablesLaws.{Holds};
+ghost use Rattle.walk.specs.Scale.{plain};
 ghost use Rattle.finder.specs.Finder.{workCells, cleared, Answered, Finds};
 use crate::Found;
 use crate::admission::admit_pair;
@@ -17,7 +18,7 @@ use crossings::crossings;
 // The answer for an accepted book, in room that is enough.
 fn solve(cells: &[u16], d: Sizes, s: usize, z: usize, work: &mut [u16], buffer: &mut [u8]) -> Found
     requires { ⌜ Holds d (now cells) ⌝ }
-    requires { ⌜ (workCells d ≤ length (now work)) × (s < d .s) × (z < d .t) × (1000 ≤ length (now buffer)) ⌝ }
+    requires { ⌜ (workCells d ≤ length (now work)) × (s < d .s) × (z < d .t) × (plain .limit ≤ length (now buffer)) ⌝ }
     ensures { λ r. ⌜ Answered (tablesOf (now (cells .entry))) s z (now (buffer .entry)) r (now (buffer .exit)) ⌝ }
     ensures { λ _. ⌜ now (work .exit) ≡ cleared d (now (work .entry)) ⌝ }
 {

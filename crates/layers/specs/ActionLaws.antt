@@ -1,8 +1,9 @@
 -- Laws of actions: which production a reduction names, and where no walk begins. Assumes nothing.
 use mathlib.Core.Bool.{true}
 use mathlib.Core.List.{List}
-use mathlib.Core.Path.{_≡_}
+use mathlib.Core.Path.{_≡_, sym, _∙_}
 use Prim.Native.Nat.{ℕ, _<_}
+use native.Mathlib.Omega.{arith}
 use borrow.Author.Tests.{ltb-true}
 use Rattle.book.specs.Range.{allowed}
 use Rattle.book.specs.Tables.{Tables, tablesOf}
@@ -17,14 +18,18 @@ reduce-allowed : (d : Sizes) (a p : ℕ) → allowed d a (Reduce p) ≡ true →
 unfolding allowed
 reduce-allowed d a p e = ltb-true p (d .p) e
 
-pub reduce-below : {d : Sizes} {cells : List ℕ} {p : ℕ} (q a : ℕ) → Holds d cells → tablesOf cells .act q a ≡ Reduce p → p < d .p
-reduce-below {d} {p} q a h e =
-    let (lq, la, ok) = act-some h q a (Reduce p) e (λ z. clash cc) in
-    reduce-allowed d a p ok
+-- what is read as an action names a production or a state of the book
+module _ {d : Sizes} {cells : List ℕ} (q a : ℕ) {x : Action} (h : Holds d cells) (same : x ≡ tablesOf cells .act q a) where
+  pub reduce-below : {p : ℕ} → x ≡ Reduce p → p < d .p
+  reduce-below {p} e =
+      let (lq, la, ok) = act-some h q a (Reduce p) (sym same ∙ e) (λ z. clash cc) in
+      reduce-allowed d a p ok
 
-pub shift-below : {d : Sizes} {cells : List ℕ} {s : ℕ} (q a : ℕ) → Holds d cells → tablesOf cells .act q a ≡ Shift s → s < d .s
-unfolding tablesOf
-shift-below {s} q a h e = rw (← h .sizes) at (in-range h .shifts q a s e .3)
+  pub shift-below : {s : ℕ} → x ≡ Shift s → (s < d .s) × (s < 128)
+  unfolding tablesOf
+  shift-below {s} e =
+      let l : s < d .s = rw (← h .sizes) at (in-range h .shifts q a s (sym same ∙ e) .3) in
+      (l, omega (arith, h .small .states))
 
 module _ (B : Tables) (q a : ℕ) {x : Action} (same : x ≡ B .act q a) where
   pub error-unopened : x ≡ Error → ¬ Opens B q a

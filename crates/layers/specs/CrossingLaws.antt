@@ -1,14 +1,16 @@
 -- Laws of the crossing table's index, and of the tables' sizes. Assumes nothing.
 use mathlib.Core.List.{List}
-use mathlib.Core.Path.{_≡_}
-use Prim.Native.Nat.{ℕ, _+_, _*_, _≤_, _<_}
+use mathlib.Core.Path.{_≡_, sym}
+use Prim.Native.Nat.{ℕ, zero, suc, _+_, _*_, _≤_, _<_}
 use native.Mathlib.Omega.{arith}
+use lib.ListN.{length}
 use Rattle.book.specs.IndexLaws.{index-below, row-below, index-first, index-second, mul-small}
 use Rattle.book.specs.Range.{Small}
 use Rattle.book.specs.Tables.{tablesOf}
-use Rattle.book.specs.TablesLaws.{Holds, goto-most, goto-inside}
+use Rattle.book.specs.TablesLaws.{Holds, goto-some, left-side-below, length-most}
 use Rattle.book.specs.declared.Sizes.{Sizes}
-use Rattle.layers.specs.Crossing.{room, crossingRow}
+use Rattle.walk.specs.Scale.{Scale}
+use Rattle.layers.specs.Crossing.{room, crossingRow, Usable}
 
 -- the sizes of the tables are those that the book says
 module _ {d : Sizes} {cells : List ℕ} (h : Holds d cells) where
@@ -16,12 +18,35 @@ module _ {d : Sizes} {cells : List ℕ} (h : Holds d cells) where
   unfolding tablesOf
   terminals-are = rw (← h .sizes)
 
+  pub terminal : {b : ℕ} → b < d .t → b < tablesOf cells .terminals
+  terminal l = rw terminals-are l
+
+  pub within : {b : ℕ} → b < tablesOf cells .terminals → b < d .t
+  within {b} l = omega (arith, terminals-are)
+
   pub states-are : tablesOf cells .states ≡ d .s
   unfolding tablesOf
   states-are = rw (← h .sizes)
 
-  pub goto-least : (q X : ℕ) → q < d .s → X < d .n → tablesOf cells .goto q X ≤ d .s
-  goto-least q X lq lX = rw (goto-inside h q X lq lX) (goto-most h q X lq lX)
+  -- what is read as a goto is no more than a state + 1
+  pub goto-least : (q X : ℕ) {r : ℕ} → r ≡ tablesOf cells .goto q X → (r ≤ d .s) × (r ≤ 128)
+  goto-least q X {r} e = go r e
+    where
+      go : (r : ℕ) → r ≡ tablesOf cells .goto q X → (r ≤ d .s) × (r ≤ 128)
+      go zero e = omega arith
+      go (suc g) e = omega (arith, goto-some h q X g (sym e) .2, h .small .states)
+
+  -- .. and what is read as a production's left side or length
+  pub left-below : {p r : ℕ} → r ≡ tablesOf cells .lhs p → p < d .p → (r < d .n) × (r < 32)
+  unfolding tablesOf
+  left-below {p} e l = rw e (omega (arith, left-side-below h p l, h .small .nonterminals))
+
+  pub length-below : {p r : ℕ} → r ≡ tablesOf cells .len p → p < d .p → r ≤ 32
+  unfolding tablesOf
+  length-below {p} e l = rw e (length-most h p l)
+
+abbrev pub RowSmall : Sizes → ℕ → ℕ → ℕ → Type 0
+RowSmall d q X a = (q * d .n ≤ 4096) × ((q * d .n + X) * d .t ≤ 132096) × (crossingRow d q X a ≤ 4228096)
 
 module _ (d : Sizes) (q X a : ℕ) (hq : q < d .s) (hX : X < d .n) (ha : a < d .t) where
   -- the row lies within the table
@@ -29,11 +54,16 @@ module _ (d : Sizes) (q X a : ℕ) (hq : q < d .s) (hX : X < d .n) (ha : a < d .
   crossing-row-below = row-below (d .s * d .n * d .t) (d .t) ((q * d .n + X) * d .t + a) (index-below (d .s * d .n) (d .t) (q * d .n + X) a (index-below (d .s) (d .n) q X hq hX) ha)
 
   -- none of the products that lead to the row's place wraps
-  pub crossing-row-small : Small d → (q * d .n ≤ 4096) × ((q * d .n + X) * d .t ≤ 132096) × (crossingRow d q X a ≤ 4228096)
+  pub crossing-row-small : Small d → RowSmall d q X a
   crossing-row-small s =
       let i : q * d .n ≤ 4096 = mul-small q 128 (d .n) 32 (omega arith) (omega arith) in
       let j : (q * d .n + X) * d .t ≤ 132096 = mul-small (q * d .n + X) 4128 (d .t) 32 (omega arith) (omega arith) in
       (i, j, mul-small ((q * d .n + X) * d .t + a) 132128 (d .t) 32 (omega arith) (omega arith))
+
+-- a row that is read
+pub row-fits : {σ : Scale} {d : Sizes} {cells table : List ℕ} {q X a start : ℕ} → Usable σ d cells table → q < d .s → X < d .n → a < d .t → start ≡ crossingRow d q X a
+    → start + d .t ≤ length table
+row-fits {d} {q} {X} {a} u hq hX ha e = omega (arith, crossing-row-below d q X a hq hX ha, u .fits)
 
 -- equal places have equal digits
 pub record SameCrossing (q X a z q′ X′ a′ z′ : ℕ) : Type 0 where

@@ -23,3 +23,5 @@ pub mod Stars
 pub mod StarsLaws
 pub mod Theory
 pub mod TheoryLaws
+pub mod Fill
+pub mod FillLaws

@@ -1,12 +1,12 @@
 -- `advance::distance::leads` meets its contract. Assumes nothing.
 use mathlib.Core.Bool.{false≢true}
 use mathlib.Core.Path.{_≡_, ap, sym, _∙_}
-use Prim.Native.Nat.{ℕ, _+_, _-_}
+use Prim.Native.Nat.{ℕ, _+_, _-_, _≤_, _<_}
 use native.Mathlib.Omega.{arith}
 use borrow.Author.Tests.{eqb-true, eqb-false}
-use lib.ListN.{getD}
+use lib.ListN.{length, getD}
 use Rattle.layers.specs.Crossing.{claimIn}
-use Rattle.layers.specs.CrossingLaws.{crossing-row-below, goto-least}
+use Rattle.layers.specs.CrossingLaws.{row-fits, goto-least}
 use borrow.Author.Needs.{needs}
 use Rattle.advance.proofs.distance.leads.Statement.{statement}
 use Rattle.advance.proofs.distance.leads.Tie as tie
@@ -14,21 +14,16 @@ use Rattle.advance.proofs.distance.leads.Tie as tie
 returns : tie.Need-returns
 returns c = (λ e. absurd (false≢true e), λ e a. omega (arith, a .transition, c .before .goto-at .ensures, c .if1 .taken))
 
-add-if2 : tie.Need-add-if2
-add-if2 c = omega (arith, crossing-row-below (c .before .before .before .before .before .args .d) (c .before .before .before .before .before .args .q) (c .before .before .before .before .before .args .v) (c .before .before .before .before .before .args .x) (c .before .before .before .before .before .pre .1 .1) (c .before .before .before .before .before .pre .1 .2) (c .before .before .before .before .before .pre .1 .0), c .crossing-row .ensures, c .before .before .before .before .before .pre .1 .3)
-
-mul-if2 : tie.Need-mul-if2
-mul-if2 c = omega (arith, crossing-row-below (c .before .before .before .before .before .args .d) (c .before .before .before .before .before .args .q) (c .before .before .before .before .before .args .v) (c .before .before .before .before .before .args .x) (c .before .before .before .before .before .pre .1 .1) (c .before .before .before .before .before .pre .1 .2) (c .before .before .before .before .before .pre .1 .0), c .crossing-row .ensures, c .before .before .before .before .before .pre .1 .3)
-
-shared-slice-read-if2 : tie.Need-shared-slice-read-if2
-shared-slice-read-if2 c = omega (arith, crossing-row-below (c .before .before .before .before .before .before .args .d) (c .before .before .before .before .before .before .args .q) (c .before .before .before .before .before .before .args .v) (c .before .before .before .before .before .before .args .x) (c .before .before .before .before .before .before .pre .1 .1) (c .before .before .before .before .before .before .pre .1 .2) (c .before .before .before .before .before .before .pre .1 .0), c .before .crossing-row .ensures, c .before .before .before .before .before .before .pre .1 .3)
+-- the row of claims lies within the table
+row : (c : tie.After-crossing-row) → (c .crossing-row .result + c .before .before .before .before .before .args .d .t ≤ length (c .before .before .before .before .before .args .table .now)) × (c .before .before .before .before .before .args .x < c .before .before .before .before .before .args .d .t)
+row c = let p = c .before .before .before .before .before .pre in (row-fits (p .0) (p .1 .1) (p .1 .2) (p .1 .0) (c .crossing-row .ensures), p .1 .0)
 
 returns-2 : tie.Need-returns-2
 unfolding claimIn
 returns-2 c = (λ e. absurd (false≢true e), λ e a. c .if2 .taken (ap (λ (i : ℕ). getD (c .before .before .before .before .before .before .before .args .table .now) (i + c .before .before .before .before .before .before .before .args .x) 0) (c .before .before .crossing-row .ensures) ∙ a .claimed))
 
 element-copy-out-result : tie.Need-element-copy-out-result
-element-copy-out-result c = omega (arith, goto-least (c .before .before .before .before .before .before .before .pre .0) (c .before .before .before .before .before .before .before .args .q) (c .before .before .before .before .before .before .before .args .v) (c .before .before .before .before .before .before .before .pre .1 .1) (c .before .before .before .before .before .before .before .pre .1 .2), c .before .before .before .before .goto-at .ensures, c .before .before .before .before .before .before .before .pre .0 .small .states)
+element-copy-out-result c = omega (arith, goto-least (c .before .before .before .before .before .before .before .pre .0 .holds) _ _ (c .before .before .before .before .goto-at .ensures))
 
 returns-3 : tie.Need-returns-3
 unfolding claimIn
@@ -49,9 +44,9 @@ leads-spec =
     (λ c κs. search needs)
     returns
     (λ c κs. search needs)
-    add-if2
-    mul-if2
-    shared-slice-read-if2
+    (λ c. omega (arith, row c))
+    (λ c. omega (arith, row c))
+    (λ c. omega (arith, row (c .before)))
     returns-2
     (λ c. search needs)
     (λ c. search needs)

@@ -16,10 +16,10 @@ abbrev μ-loop : tie.MeasureT-loop
 μ-loop cells d table x to₀ m₀ n₀ to m n = 128 - m
 
 loop-holds : tie.Need-loop-holds Inv-loop μ-loop
-loop-holds c = (omega arith, rounds-none (c .before .before .before .before .pre .0) (c .start .ensures))
+loop-holds c = (omega arith, rounds-none (c .before .before .before .before .pre .0 .holds) (c .start .ensures))
 
 round-requires : tie.Need-round-requires Inv-loop μ-loop
-round-requires c κs = (c .before .before .before .before .before .before .before .pre .0, ((c .before .before .before .before .before .before .before .pre .1 .0 .0, c .before .before .loop .inv .1 .low (c .before .loop-test .taken), c .before .before .before .before .before .before .before .pre .1 .0 .1), (c .before .before .before .before .before .before .before .pre .1 .1, c .before .before .loop .inv .1 .round)))
+round-requires c κs = let l = c .before .before .loop .inv .1 in (c .before .before .before .before .before .before .before .pre .0, ((c .before .before .before .before .before .before .before .pre .1, l .low (c .before .loop-test .taken)), l .round))
 
 add-m : tie.Need-add-m Inv-loop μ-loop
 add-m c = omega (arith, c .before .before .before .loop .inv .0)
@@ -28,7 +28,7 @@ loop-less : tie.Need-loop-less Inv-loop μ-loop
 loop-less c = omega (arith, c .before .before .before .loop .inv .1 .low (c .before .before .loop-test .taken))
 
 loop-again : tie.Need-loop-again Inv-loop μ-loop
-loop-again c = (omega (arith, c .before .before .before .loop .inv .1 .low (c .before .before .loop-test .taken)), rounds-more (c .before .before .before .before .before .before .before .before .pre .0) (c .before .before .before .loop .inv .1 .low (c .before .before .loop-test .taken)) (c .round .ensures))
+loop-again c = let m = c .before .before .before .loop .inv .1 .low (c .before .before .loop-test .taken) in (omega (arith, m), rounds-more (c .before .before .before .before .before .before .before .before .pre .0 .holds) m (c .round .ensures))
 
 returns : tie.Need-returns Inv-loop μ-loop
 returns c = c .before .loop .inv .1 .last (c .loop-test .left)

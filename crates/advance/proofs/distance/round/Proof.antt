@@ -17,22 +17,13 @@ abbrev μ-loop : tie.MeasureT-loop
 μ-loop cells d table x m to₀ s n₀ q₀ to n q = s - q
 
 loop-holds : tie.Need-loop-holds Inv-loop μ-loop
-loop-holds c = (omega arith, omega arith, c .before .before .pre .1 .1 .1)
-
-turn-requires : tie.Need-turn-requires Inv-loop μ-loop
-turn-requires c κs = (c .before .before .before .before .before .pre .0, ((c .before .before .before .before .before .pre .1 .0 .0, c .before .loop-test .taken, c .before .before .before .before .before .pre .1 .0 .2), (c .before .before .before .before .before .pre .1 .1 .0, (c .before .before .before .before .before .pre .1 .0 .1, c .before .before .loop .inv .2 .sound .size))))
+loop-holds c = (omega arith, omega arith, c .before .before .pre .1 .1)
 
 add-n : tie.Need-add-n Inv-loop μ-loop
-add-n c = omega (arith, c .turn .ensures .0, c .before .before .before .before .before .before .pre .0 .small .states)
-
-add-q : tie.Need-add-q Inv-loop μ-loop
-add-q c = search needs
-
-loop-less : tie.Need-loop-less Inv-loop μ-loop
-loop-less c = search needs
+add-n c = omega (arith, c .turn .ensures .0, c .before .before .before .before .before .before .pre .0 .holds .small .states)
 
 loop-again : tie.Need-loop-again Inv-loop μ-loop
-loop-again c = (omega arith, omega (arith, c .turn .ensures .0), round-more (c .before .before .before .before .before .before .pre .0) (c .before .before .loop-test .taken) (c .before .before .before .loop .inv .2) (c .turn .ensures .1))
+loop-again c = (omega arith, omega (arith, c .turn .ensures .0), round-more (c .before .before .before .before .before .before .pre .0 .holds) (c .before .before .loop-test .taken) (c .before .before .before .loop .inv .2) (c .turn .ensures .1))
 
 returns : tie.Need-returns Inv-loop μ-loop
 returns c = rw (le-antisymm (c .before .loop .inv .0) (c .loop-test .left)) at (c .before .loop .inv .2)
@@ -40,4 +31,4 @@ returns c = rw (le-antisymm (c .before .loop .inv .0) (c .loop-test .left)) at (
 pub round-spec : {M : Type 1} → statement M
 round-spec =
     tie.close
-    (tie.spec Inv-loop μ-loop loop-holds turn-requires add-n add-q loop-less loop-again returns)
+    (tie.spec Inv-loop μ-loop loop-holds (λ c κs. search needs) add-n (λ c. search needs) (λ c. search needs) loop-again returns)

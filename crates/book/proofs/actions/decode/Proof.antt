@@ -15,9 +15,6 @@ returns-2 : tie.Need-returns-2
 unfolding actionOf
 returns-2 c = search needs
 
-sub-k : tie.Need-sub-k
-sub-k c = search needs
-
 returns-3 : tie.Need-returns-3
 returns-3 c = sym (action-even _ _ (omega arith) (c .if3 .taken))
 
@@ -25,4 +22,4 @@ returns-4 : tie.Need-returns-4
 returns-4 c = sym (action-odd _ _ (omega arith) (omega arith))
 
 pub decode-spec : {M : Type 1} → statement M
-decode-spec = tie.close (tie.spec returns returns-2 sub-k returns-3 returns-4)
+decode-spec = tie.close (tie.spec returns returns-2 (λ c. search needs) returns-3 returns-4)

@@ -5,15 +5,6 @@ use borrow.Author.Needs.{needs}
 use Rattle.book.proofs.cells.cell_at.Statement.{statement}
 use Rattle.book.proofs.cells.cell_at.Tie as tie
 
-mul-t5 : tie.Need-mul-t5
-mul-t5 c = search needs
-
-shared-slice-read-t7 : tie.Need-shared-slice-read-t7
-shared-slice-read-t7 c = search needs
-
-add-t8 : tie.Need-add-t8
-add-t8 c = search needs
-
 returns : tie.Need-returns
 unfolding cellAt
 returns c = rw (lt-ltb _ _ (c .before .if1 .taken))
@@ -23,4 +14,4 @@ unfolding cellAt
 returns-2 c = rw (le-ltb _ _ (c .if1 .left))
 
 pub cell-at-spec : {M : Type 1} → statement M
-cell-at-spec = tie.close (tie.spec mul-t5 shared-slice-read-t7 add-t8 returns returns-2)
+cell-at-spec = tie.close (tie.spec (λ c. search needs) (λ c. search needs) (λ c. search needs) returns returns-2)

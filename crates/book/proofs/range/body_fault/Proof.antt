@@ -4,9 +4,6 @@ use borrow.Author.Needs.{needs}
 use Rattle.book.proofs.range.body_fault.Statement.{statement}
 use Rattle.book.proofs.range.body_fault.Tie as tie
 
-in-range-requires : tie.Need-in-range-requires
-in-range-requires c κs = search needs
-
 returns : tie.Need-returns
 unfolding bodyFault
 returns c = rw (← c .before .in-range .ensures, c .if1 .taken)
@@ -16,4 +13,4 @@ unfolding bodyFault
 returns-2 c = rw (← c .before .in-range .ensures, c .if1 .left)
 
 pub body-fault-spec : {M : Type 1} → statement M
-body-fault-spec = tie.close (tie.spec in-range-requires returns returns-2)
+body-fault-spec = tie.close (tie.spec (λ c κs. search needs) returns returns-2)

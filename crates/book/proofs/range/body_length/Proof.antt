@@ -5,9 +5,6 @@ use borrow.Author.Needs.{needs}
 use Rattle.book.proofs.range.body_length.Statement.{statement}
 use Rattle.book.proofs.range.body_length.Tie as tie
 
-mul-result : tie.Need-mul-result
-mul-result c = search needs
-
 mul-result-2 : tie.Need-mul-result-2
 mul-result-2 c = omega (arith, actions-few _ (c .before .before .pre))
 
@@ -20,9 +17,6 @@ mul-result-3 c = omega (arith, gotos-few _ (c .before .before .before .pre))
 add-result-2 : tie.Need-add-result-2
 add-result-2 c = omega (arith, actions-few _ (c .before .before .before .pre), gotos-few _ (c .before .before .before .pre))
 
-returns : tie.Need-returns
-returns c = search needs
-
 pub body-length-spec : {M : Type 1} → statement M
 body-length-spec =
-    tie.close (tie.spec mul-result mul-result-2 add-result mul-result-3 add-result-2 returns)
+    tie.close (tie.spec (λ c. search needs) mul-result-2 add-result mul-result-3 add-result-2 (λ c. search needs))

@@ -1,6 +1,6 @@
 -- `crossings::position::action_passes` meets its contract. Assumes nothing.
 use native.Mathlib.Omega.{arith}
-use mathlib.Core.Path.{sym, _∙_}
+use mathlib.Core.Path.{_∙_}
 use Rattle.crossings.specs.PositionLaws.{error-barred, accept-barred, shift-barred, reduce-barred}
 use borrow.Author.Tests.{eqb-false}
 use Rattle.layers.specs.ActionLaws.{shift-below, reduce-below}
@@ -9,10 +9,10 @@ use Rattle.crossings.proofs.position.action_passes.Statement.{statement
 use Rattle.crossings.proofs.position.action_passes.Tie as tie
 
 marked-requires : tie.Need-marked-requires
-marked-requires c κs = (omega arith, omega (arith, shift-below (c .before .before .before .before .before .args .q) (c .before .before .before .before .before .args .z) (c .before .before .before .before .before .pre .0) (sym (c .before .before .before .action-at .ensures) ∙ c .before .g .given .1), c .before .before .before .before .before .pre .0 .small .states), c .before .before .before .before .before .pre .1 .3)
+marked-requires c κs = (omega arith, shift-below _ _ (c .before .before .before .before .before .pre .0) (c .before .before .before .action-at .ensures) (c .before .g .given .1) .1, c .before .before .before .before .before .pre .1 .3)
 
 production-length-requires : tie.Need-production-length-requires
-production-length-requires c κs = (c .before .before .before .before .before .pre .0, reduce-below _ _ (c .before .before .before .before .before .pre .0) (sym (c .before .before .before .action-at .ensures) ∙ c .before .p .given .1))
+production-length-requires c κs = (c .before .before .before .before .before .pre .0, reduce-below _ _ (c .before .before .before .before .before .pre .0) (c .before .before .before .action-at .ensures) (c .before .p .given .1))
 
 returns : tie.Need-returns
 returns c = λ e. shift-barred (c .before .before .before .before .action-at .ensures) (c .before .before .g .given .1) (c .marked .ensures e)

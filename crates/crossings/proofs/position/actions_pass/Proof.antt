@@ -19,9 +19,6 @@ abbrev μ-loop : tie.MeasureT-loop
 loop-holds : tie.Need-loop-holds Inv-loop μ-loop
 loop-holds c = (omega arith, λ j h. absurd (omega arith))
 
-action-passes-requires : tie.Need-action-passes-requires Inv-loop μ-loop
-action-passes-requires c κs = (c .before .before .before .pre .0, (c .before .before .before .pre .1 .0, c .before .before .before .pre .1 .1, c .loop-test .taken, c .before .before .before .pre .1 .2))
-
 returns : tie.Need-returns Inv-loop μ-loop
 returns c = λ e. absurd (false≢true (sym e))
 
@@ -38,7 +35,7 @@ actions-pass-spec =
     Inv-loop
     μ-loop
     loop-holds
-    action-passes-requires
+    (λ c κs. search needs)
     returns
     (λ c. search needs)
     (λ c. search needs)

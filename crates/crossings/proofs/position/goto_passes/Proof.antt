@@ -7,23 +7,11 @@ use borrow.Author.Needs.{needs}
 use Rattle.crossings.proofs.position.goto_passes.Statement.{statement}
 use Rattle.crossings.proofs.position.goto_passes.Tie as tie
 
-goto-at-requires : tie.Need-goto-at-requires
-goto-at-requires c κs = search needs
-
 returns : tie.Need-returns
 returns c = λ e. record { gotos = λ g i. absurd (omega (arith, i, c .if1 .taken, c .before .goto-at .ensures)) }
 
-add-marked : tie.Need-add-marked
-add-marked c = search needs
-
-sub-marked : tie.Need-sub-marked
-sub-marked c = search needs
-
-cast-marked : tie.Need-cast-marked
-cast-marked c = search needs
-
 marked-requires : tie.Need-marked-requires
-marked-requires c κs = (omega arith, omega (arith, goto-least (c .before .before .before .pre .0) (c .before .before .before .args .q) (c .before .before .before .args .x) (c .before .before .before .pre .1 .1) (c .before .before .before .pre .1 .2), c .before .goto-at .ensures, c .before .before .before .pre .0 .small .states), c .before .before .before .pre .1 .3)
+marked-requires c κs = (omega arith, omega (arith, goto-least (c .before .before .before .pre .0) _ _ (c .before .goto-at .ensures)), c .before .before .before .pre .1 .3)
 
 returns-2 : tie.Need-returns-2
 returns-2 c = λ e. record { gotos = λ g i. let j : g ≡ c .before .before .goto-at .result - 1 = omega (arith, i, c .before .before .goto-at .ensures) in rw j (c .marked .ensures e) }
@@ -31,4 +19,4 @@ returns-2 c = λ e. record { gotos = λ g i. let j : g ≡ c .before .before .go
 pub goto-passes-spec : {M : Type 1} → statement M
 goto-passes-spec =
     tie.close
-    (tie.spec goto-at-requires returns add-marked sub-marked cast-marked marked-requires returns-2)
+    (tie.spec (λ c κs. search needs) returns (λ c. search needs) (λ c. search needs) (λ c. search needs) marked-requires returns-2)

@@ -15,12 +15,9 @@ passes-requires c κs = (c .before .before .before .pre .0, (omega (arith, c .be
 returns-2 : tie.Need-returns-2
 returns-2 c = positions-kept (c .before .before .before .before .before .args .k) (c .before .before .before .before .before .pre .1 .1) (c .before .before .before .before .before .pre .0 .small .states) (λ h. c .before .passes .ensures (not-true _ (c .if2 .taken)))
 
-element-write-positions : tie.Need-element-write-positions
-element-write-positions c = search needs
-
 returns-3 : tie.Need-returns-3
 returns-3 c = positions-set (c .before .before .before .before .before .args .k) (c .before .before .before .before .before .pre .1 .1) (c .before .before .before .before .before .pre .0 .small .states) (c .before .before .before .before .before .pre .1 .0)
 
 pub mark-spec : {M : Type 1} → statement M
 mark-spec =
-    tie.close (tie.spec returns passes-requires returns-2 element-write-positions returns-3)
+    tie.close (tie.spec returns passes-requires returns-2 (λ c. search needs) returns-3)

@@ -19,14 +19,8 @@ abbrev μ-loop : tie.MeasureT-loop
 loop-holds : tie.Need-loop-holds Inv-loop μ-loop
 loop-holds c = (omega arith, record { size = length-replicate {A = ℕ} 4096 0; barred = λ n q hn hq l e. absurd (omega (arith, c .before .before .pre .small .states)) })
 
-sub-k : tie.Need-sub-k Inv-loop μ-loop
-sub-k c = search needs
-
 mark-requires : tie.Need-mark-requires Inv-loop μ-loop
 mark-requires c κs = (c .before .before .before .before .before .pre, (omega (arith, c .before .before .loop .inv .0, c .before .loop-test .taken), rw (pred-more (c .before .loop-test .taken)) (c .before .before .loop .inv .1)))
-
-loop-less : tie.Need-loop-less Inv-loop μ-loop
-loop-less c = search needs
 
 loop-again : tie.Need-loop-again Inv-loop μ-loop
 loop-again c = (omega (arith, c .before .before .before .loop .inv .0), c .mark .ensures)
@@ -37,4 +31,4 @@ returns c = rw (le-antisymm (c .loop-test .left) (omega arith)) at (c .before .l
 pub mark-all-spec : {M : Type 1} → statement M
 mark-all-spec =
     tie.close
-    (tie.spec Inv-loop μ-loop loop-holds sub-k mark-requires loop-less loop-again returns)
+    (tie.spec Inv-loop μ-loop loop-holds (λ c. search needs) mark-requires (λ c. search needs) loop-again returns)

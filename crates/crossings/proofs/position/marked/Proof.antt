@@ -9,17 +9,8 @@ use Rattle.crossings.proofs.position.marked.Tie as tie
 returns : tie.Need-returns
 returns c = λ e. position-none (c .before .args .positions .now) (c .before .args .n) (c .before .args .q) (c .before .pre .2) (omega (arith, c .if1 .taken))
 
-mul-result : tie.Need-mul-result
-mul-result c = search needs
-
-add-result : tie.Need-add-result
-add-result c = search needs
-
-element-copy-out-result : tie.Need-element-copy-out-result
-element-copy-out-result c = search needs
-
 returns-2 : tie.Need-returns-2
 returns-2 c = λ e. eqb-true _ _ (not-false _ e)
 
 pub marked-spec : {M : Type 1} → statement M
-marked-spec = tie.close (tie.spec returns mul-result add-result element-copy-out-result returns-2)
+marked-spec = tie.close (tie.spec returns (λ c. search needs) (λ c. search needs) (λ c. search needs) returns-2)

@@ -6,17 +6,11 @@ use borrow.Author.Needs.{needs}
 use Rattle.crossings.proofs.position.passes.Statement.{statement}
 use Rattle.crossings.proofs.position.passes.Tie as tie
 
-actions-pass-requires : tie.Need-actions-pass-requires
-actions-pass-requires c κs = search needs
-
 returns : tie.Need-returns
 returns c = λ e. absurd (false≢true (sym e))
-
-gotos-pass-requires : tie.Need-gotos-pass-requires
-gotos-pass-requires c κs = search needs
 
 returns-2 : tie.Need-returns-2
 returns-2 c = λ e. barred-all (c .before .before .before .before .pre .0) (c .before .before .actions-pass .ensures (c .before .if1 .left)) (c .gotos-pass .ensures e)
 
 pub passes-spec : {M : Type 1} → statement M
-passes-spec = tie.close (tie.spec actions-pass-requires returns gotos-pass-requires returns-2)
+passes-spec = tie.close (tie.spec (λ c κs. search needs) returns (λ c κs. search needs) returns-2)

@@ -18,15 +18,6 @@ abbrev μ-loop : tie.MeasureT-loop
 loop-holds : tie.Need-loop-holds Inv-loop μ-loop
 loop-holds c = (omega arith, record { bound = λ p g h e. absurd (omega arith); most = omega arith })
 
-longer-requires : tie.Need-longer-requires Inv-loop μ-loop
-longer-requires c κs = (c .before .before .before .pre .0, (c .before .before .before .pre .1, c .loop-test .taken, c .before .loop .inv .1 .most))
-
-add-p : tie.Need-add-p Inv-loop μ-loop
-add-p c = search needs
-
-loop-less : tie.Need-loop-less Inv-loop μ-loop
-loop-less c = search needs
-
 loop-again : tie.Need-loop-again Inv-loop μ-loop
 loop-again c = (omega arith, longest-more (c .before .before .loop .inv .1) (c .longer .ensures))
 
@@ -36,4 +27,4 @@ returns c = rw (le-antisymm (c .before .loop .inv .0) (c .loop-test .left)) at (
 pub longest-spec : {M : Type 1} → statement M
 longest-spec =
     tie.close
-    (tie.spec Inv-loop μ-loop loop-holds longer-requires add-p loop-less loop-again returns)
+    (tie.spec Inv-loop μ-loop loop-holds (λ c κs. search needs) (λ c. search needs) (λ c. search needs) loop-again returns)

@@ -1,23 +1,29 @@
 -- `distances::goal::approach` meets its contract. Assumes nothing.
 use native.Mathlib.Omega.{arith}
-use Prim.Native.Nat.{_-_}
 use borrow.Author.Tests.{not-true}
+use Prim.Native.Nat.{_<_}
 use native.Mathlib.Nat.{le-trans}
-use Rattle.layers.specs.CrossingLaws.{terminals-are}
-use Rattle.distances.specs.PassLaws.{pass-none, pass-store}
+use Rattle.layers.specs.CrossingLaws.{terminals-are, terminal}
+use Rattle.distances.specs.PassLaws.{pass-idle, pass-store}
 use Rattle.distances.specs.GoalLaws.{nearest, nearest-unopened, sooner-attained, marked-store}
 use borrow.Author.Needs.{needs}
 use Rattle.distances.proofs.goal.approach.Statement.{statement}
 use Rattle.distances.proofs.goal.approach.Tie as tie
 
 returns : tie.Need-returns
-returns c = (pass-none (c .before .before .before .before .pre .1 .1 .1 .0) (nearest-unopened (c .before .before .before .before .pre .0) _ (c .before .before .before .before .pre .1 .1 .0) (c .before .opens .ensures (not-true _ (c .if1 .taken))) (rw (terminals-are (c .before .before .before .before .pre .0)) (c .before .before .before .before .pre .1 .0 .1)) (c .before .before .before .before .pre .1 .1 .1 .0)), c .before .before .before .before .pre .1 .1 .1 .1)
+returns c = let p = c .before .before .before .before .pre in (pass-idle (p .1 .1 .0) (nearest-unopened (p .0 .holds) _ (p .0 .quiet) (c .before .opens .ensures (not-true _ (c .if1 .taken))) (terminal (p .0 .holds) (p .1 .0 .1)) (p .1 .1 .0)), p .1 .1 .1)
 
 returns-2 : tie.Need-returns-2
-returns-2 c = (pass-none (c .before .before .before .before .before .before .before .before .pre .1 .1 .1 .0) (nearest (c .before .before .before .before .before .before .before .before .pre .0) _ (rw (terminals-are (c .before .before .before .before .before .before .before .before .pre .0)) (c .before .before .before .before .before .before .before .before .pre .1 .0 .1)) (c .before .toward .ensures) (le-trans (c .before .before .before .before .before .before .before .before .pre .1 .1 .1 .0 .most _ _ (rw (terminals-are (c .before .before .before .before .before .before .before .before .pre .0)) (c .before .before .before .before .before .before .before .before .pre .1 .0 .1))) (c .if2 .taken))), c .before .before .before .before .before .before .before .before .pre .1 .1 .1 .1)
+returns-2 c = let p = c .before .before .before .before .before .before .before .before .pre in let h = terminal (p .0 .holds) (p .1 .0 .1) in (pass-idle (p .1 .1 .0) (nearest (p .0 .holds) _ h (c .before .toward .ensures) (le-trans (p .1 .1 .0 .most _ _ h) (c .if2 .taken))), p .1 .1 .1)
 
 returns-3 : tie.Need-returns-3
-returns-3 c = (pass-store _ _ _ (omega (arith, terminals-are (c .before .before .before .before .before .before .before .before .before .before .pre .0), c .before .before .before .before .before .before .before .before .before .before .pre .0 .small .terminals)) (omega (arith, c .before .before .before .before .before .before .before .before .before .before .pre .1 .0 .0, c .before .before .before .before .before .before .before .before .before .before .pre .0 .small .states)) (rw (terminals-are (c .before .before .before .before .before .before .before .before .before .before .pre .0)) (c .before .before .before .before .before .before .before .before .before .before .pre .1 .0 .1)) (sooner-attained (c .before .before .before .before .before .before .before .before .before .before .pre .0) _ (rw (terminals-are (c .before .before .before .before .before .before .before .before .before .before .pre .0)) (c .before .before .before .before .before .before .before .before .before .before .pre .1 .0 .1)) (c .before .before .before .toward .ensures)) (c .before .before .before .before .before .before .before .before .before .before .pre .1 .1 .1 .0) (λ l. nearest (c .before .before .before .before .before .before .before .before .before .before .pre .0) _ (rw (terminals-are (c .before .before .before .before .before .before .before .before .before .before .pre .0)) (c .before .before .before .before .before .before .before .before .before .before .pre .1 .0 .1)) (c .before .before .before .toward .ensures) l) (c .lower .ensures), marked-store (c .before .before .before .before .before .before .before .before .before .before .pre .1 .1 .1 .1) _ _ _ (c .before .before .before .before .before .before .before .before .before .before .pre .0 .small .terminals) (omega (arith, c .before .before .before .before .before .before .before .before .before .before .pre .1 .0 .0, c .before .before .before .before .before .before .before .before .before .before .pre .0 .small .states)) (c .before .before .before .before .before .before .before .before .before .before .pre .1 .0 .1) (c .lower .ensures))
+returns-3 c =
+    let p = c .before .before .before .before .before .before .before .before .before .before .pre in
+    let b = p .0 .holds .small in
+    let q : c .before .before .before .before .before .before .before .before .before .before .args .q < 128 = omega (arith, p .1 .0 .0, b .states) in
+    let h = terminal (p .0 .holds) (p .1 .0 .1) in
+    let t = c .before .before .before .toward .ensures in
+    (pass-store _ _ _ (omega (arith, terminals-are (p .0 .holds), b .terminals)) q h (sooner-attained (p .0 .holds) _ h t) (p .1 .1 .0) (λ l. nearest (p .0 .holds) _ h t l) (c .lower .ensures), marked-store (p .1 .1 .1) _ _ _ (b .terminals) q (p .1 .0 .1) (c .lower .ensures))
 
 pub approach-spec : {M : Type 1} → statement M
 approach-spec =

@@ -1,7 +1,5 @@
 -- `distances::transition::toward_shift` meets its contract. Assumes nothing.
-use native.Mathlib.Omega.{arith}
 use mathlib.Core.Path.{_∙_, sym}
-use Prim.Native.Nat.{_-_}
 use Rattle.layers.specs.ActionLaws.{shift-below, error-shiftless, accept-shiftless, reduce-shiftless}
 use Rattle.distances.specs.GoalLaws.{to-shift, to-no-shift}
 use borrow.Author.Needs.{needs}
@@ -9,7 +7,7 @@ use Rattle.distances.proofs.transition.toward_shift.Statement.{statemen
 use Rattle.distances.proofs.transition.toward_shift.Tie as tie
 
 past-shift-requires : tie.Need-past-shift-requires
-past-shift-requires c κs = ((omega (arith, shift-below (c .before .before .before .before .before .args .q) (c .before .before .before .before .before .args .a) (c .before .before .before .before .before .pre .0) (sym (c .before .before .before .action-at .ensures) ∙ c .before .s .given .1), c .before .before .before .before .before .pre .0 .small .states), c .before .before .before .before .before .pre .0 .small .terminals), c .before .before .before .before .before .pre .1 .1)
+past-shift-requires c κs = ((shift-below _ _ (c .before .before .before .before .before .pre .0) (c .before .before .before .action-at .ensures) (c .before .s .given .1) .1, c .before .before .before .before .before .pre .0 .small .terminals), c .before .before .before .before .before .pre .1 .1)
 
 returns : tie.Need-returns
 returns c = to-shift (c .before .before .before .before .before .before .pre .0) (c .before .before .before .before .before .before .args .dist .now) _ _ (sym (c .before .before .before .before .action-at .ensures) ∙ c .before .before .s .given .1) (c .past-shift .ensures)

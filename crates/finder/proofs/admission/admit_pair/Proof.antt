@@ -49,6 +49,7 @@ admit-pair-spec =
     work-cells-requires
     (λ c κs. search needs)
     returns-4
+    (λ c. search needs)
     (λ c κs. search needs)
     returns-5
     returns-6)

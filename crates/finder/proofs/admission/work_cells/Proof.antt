@@ -11,14 +11,8 @@ mul-result c = omega (arith, room (c .before .pre) .squares)
 mul-result-2 : tie.Need-mul-result-2
 mul-result-2 c = omega (arith, room (c .before .before .pre) .layers)
 
-add-result : tie.Need-add-result
-add-result c = search needs
-
 mul-result-3 : tie.Need-mul-result-3
 mul-result-3 c = omega (arith, room (c .before .before .before .pre) .work)
 
-returns : tie.Need-returns
-returns c = search needs
-
 pub work-cells-spec : {M : Type 1} → statement M
-work-cells-spec = tie.close (tie.spec mul-result mul-result-2 add-result mul-result-3 returns)
+work-cells-spec = tie.close (tie.spec mul-result mul-result-2 (λ c. search needs) mul-result-3 (λ c. search needs))

@@ -6,15 +6,6 @@ use borrow.Author.Needs.{needs}
 use Rattle.finder.proofs.choice.completes.Statement.{statement}
 use Rattle.finder.proofs.choice.completes.Tie as tie
 
-search-requires : tie.Need-search-requires
-search-requires c κs = search needs
-
-enum-told : tie.Need-enum-told
-enum-told c = search needs
-
-enum-told-2 : tie.Need-enum-told-2
-enum-told-2 c = search needs
-
 returns : tie.Need-returns
 returns c = (λ e. reached-completes (omega (arith, c .before .before .before .before .before .before .pre)) (rw (c .enum-told .given .1) at (c .before .before .search .ensures)), λ e. absurd (true≢false e))
 
@@ -22,4 +13,4 @@ returns-2 : tie.Need-returns-2
 returns-2 c = (λ e. absurd (false≢true e), λ e (v, k, l). rw (c .enum-told2 .given .1) at (c .before .before .search .ensures) v k l)
 
 pub completes-spec : {M : Type 1} → statement M
-completes-spec = tie.close (tie.spec search-requires enum-told enum-told-2 returns returns-2)
+completes-spec = tie.close (tie.spec (λ c κs. search needs) (λ c. search needs) (λ c. search needs) returns returns-2)

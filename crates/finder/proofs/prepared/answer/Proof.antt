@@ -1,6 +1,6 @@
 -- `finder::prepared::answer` meets its contract: the least cost to go from the start says which answer it is. Assumes nothing.
 use native.Mathlib.Omega.{arith}
-use Rattle.distances.specs.TableLaws.{table-quiet, table-closed, table-witnessed}
+use Rattle.distances.specs.TableLaws.{table-usable, table-closed, table-witnessed}
 use Rattle.distances.specs.SingleLaws.{single-goals}
 use Rattle.finder.specs.PairLaws.{pair-reached, to-pair, answered-unreached, answered-long, answered-sentence}
 use borrow.Author.Needs.{needs}
@@ -11,13 +11,16 @@ to-goal-requires : tie.Need-to-goal-requires
 to-goal-requires c κs = (c .before .before .before .before .before .before .pre .0, (c .before .before .before .before .before .before .pre .1 .0, single-goals (c .before .only .ensures)))
 
 returns : tie.Need-returns
-returns c = answered-unreached (pair-reached (c .before .before .before .before .before .before .before .before .before .before .pre .0) (c .before .before .before .before .before .only .ensures) (c .before .before .before .before .before .before .before .before .before .before .pre .1 .1 .0) (c .before .before .before .before .before .before .before .before .before .before .pre .1 .1 .1) (c .before .before .before .to-goal .ensures) (c .before .shortest .ensures)) (c .if1 .taken)
+returns c = let p = c .before .before .before .before .before .before .before .before .before .before .pre in answered-unreached (pair-reached (p .0) (c .before .before .before .before .before .only .ensures) (p .1 .1 .0) (p .1 .1 .1) (c .before .before .before .to-goal .ensures) (c .before .shortest .ensures)) (c .if1 .taken)
 
 returns-2 : tie.Need-returns-2
-returns-2 c = answered-long (pair-reached (c .before .before .before .before .before .before .before .before .before .before .before .pre .0) (c .before .before .before .before .before .before .only .ensures) (c .before .before .before .before .before .before .before .before .before .before .before .pre .1 .1 .0) (c .before .before .before .before .before .before .before .before .before .before .before .pre .1 .1 .1) (c .before .before .before .before .to-goal .ensures) (c .before .before .shortest .ensures)) (c .if2 .taken) (c .before .if1 .left)
+returns-2 c = let p = c .before .before .before .before .before .before .before .before .before .before .before .pre in answered-long (pair-reached (p .0) (c .before .before .before .before .before .before .only .ensures) (p .1 .1 .0) (p .1 .1 .1) (c .before .before .before .before .to-goal .ensures) (c .before .before .shortest .ensures)) (c .if2 .taken) (c .before .if1 .left)
 
 choose-requires : tie.Need-choose-requires
-choose-requires c κs = let h = c .before .before .before .before .before .before .before .before .before .before .before .before .before .pre .0 in let t = c .before .before .before .before .before .before .before .before .before .before .before .before .before .pre .1 .0 in (h, ((c .before .before .before .before .before .before .before .before .before .before .before .before .before .pre .1 .1 .1, t .fits, omega arith, omega (arith, c .before .before .before .before .before .before .before .before .before .before .before .before .before .pre .1 .1 .2)), (table-quiet h t, ((table-closed h t, table-witnessed h t), (to-pair h (c .before .before .before .before .before .before .before .before .only .ensures) (c .before .before .before .before .before .before .before .before .before .before .before .before .before .pre .1 .1 .0) (c .before .before .before .before .before .before .before .before .before .before .before .before .before .pre .1 .1 .1) (c .before .before .before .before .before .before .to-goal .ensures) t, (pair-reached (c .before .before .before .before .before .before .before .before .before .before .before .before .before .pre .0) (c .before .before .before .before .before .before .before .before .only .ensures) (c .before .before .before .before .before .before .before .before .before .before .before .before .before .pre .1 .1 .0) (c .before .before .before .before .before .before .before .before .before .before .before .before .before .pre .1 .1 .1) (c .before .before .before .before .before .before .to-goal .ensures) (c .before .before .before .before .shortest .ensures)))))))
+choose-requires c κs =
+    let p = c .before .before .before .before .before .before .before .before .before .before .before .before .before .pre in
+    let t = p .1 .0 in
+    (table-usable (p .0) t, ((p .1 .1 .1, omega arith, omega (arith, p .1 .1 .2)), ((table-closed (p .0) t, table-witnessed (p .0) t), (to-pair (p .0) (c .before .before .before .before .before .before .before .before .only .ensures) (p .1 .1 .0) (p .1 .1 .1) (c .before .before .before .before .before .before .to-goal .ensures) t, pair-reached (p .0) (c .before .before .before .before .before .before .before .before .only .ensures) (p .1 .1 .0) (p .1 .1 .1) (c .before .before .before .before .before .before .to-goal .ensures) (c .before .before .before .before .shortest .ensures)))))
 
 returns-3 : tie.Need-returns-3
 returns-3 c = answered-sentence (c .before .before .choose .ensures)

@@ -1,6 +1,5 @@
 -- `layers::transition::opens` meets its contract. Assumes nothing.
 use mathlib.Core.Path.{_∙_, sym}
-use Prim.Native.Nat.{_-_}
 use mathlib.Core.Bool.{false≢true}
 use borrow.Author.Tests.{eqb-false}
 use Rattle.layers.specs.ActionLaws.{reduce-below, reduce-unopened, error-unopened, accept-unopened}
@@ -9,7 +8,7 @@ use Rattle.layers.proofs.transition.opens.Statement.{statement}
 use Rattle.layers.proofs.transition.opens.Tie as tie
 
 production-length-requires : tie.Need-production-length-requires
-production-length-requires c κs = (c .before .before .before .before .before .pre .0, reduce-below _ _ (c .before .before .before .before .before .pre .0) (sym (c .before .before .before .action-at .ensures) ∙ c .before .p .given .1))
+production-length-requires c κs = (c .before .before .before .before .before .pre .0, reduce-below _ _ (c .before .before .before .before .before .pre .0) (c .before .before .before .action-at .ensures) (c .before .p .given .1))
 
 returns : tie.Need-returns
 returns c = λ e. absurd (false≢true (sym e))

@@ -1,7 +1,5 @@
 -- `layers::transition::shift_from` meets its contract. Assumes nothing.
 use mathlib.Core.Path.{_∙_, sym}
-use Prim.Native.Nat.{_-_}
-use native.Mathlib.Omega.{arith}
 use Rattle.layers.specs.ActionLaws.{shift-below, error-shiftless, accept-shiftless, reduce-shiftless}
 use Rattle.layers.specs.LengthenLaws.{step-shift, step-no-shift, step-shift-unwanted}
 use borrow.Author.Needs.{needs}
@@ -9,16 +7,16 @@ use Rattle.layers.proofs.transition.shift_from.Statement.{statement}
 use Rattle.layers.proofs.transition.shift_from.Tie as tie
 
 element-copy-out-if1 : tie.Need-element-copy-out-if1
-element-copy-out-if1 c = omega (arith, shift-below (c .before .before .before .before .before .args .q) (c .before .before .before .before .before .args .a) (c .before .before .before .before .before .pre .0) (sym (c .before .before .before .action-at .ensures) ∙ c .before .s .given .1), c .before .before .before .before .before .pre .0 .small .states)
+element-copy-out-if1 c = shift-below _ _ (c .before .before .before .before .before .pre .0) (c .before .before .before .action-at .ensures) (c .before .s .given .1) .1
 
 returns : tie.Need-returns
 returns c = (c .before .before .before .before .before .before .before .pre .1 .1, step-shift-unwanted (c .before .before .before .before .before .before .before .pre .0) _ _ _ (sym (c .before .before .before .before .before .action-at .ensures) ∙ c .before .before .before .s .given .1) (c .if1 .taken))
 
 turn-on-requires : tie.Need-turn-on-requires
-turn-on-requires c κs = (c .before .before .before .before .before .before .before .before .before .pre .1 .1, omega (arith, shift-below (c .before .before .before .before .before .before .before .before .before .args .q) (c .before .before .before .before .before .before .before .before .before .args .a) (c .before .before .before .before .before .before .before .before .before .pre .0) (sym (c .before .before .before .before .before .before .before .action-at .ensures) ∙ c .before .before .before .before .before .s .given .1), c .before .before .before .before .before .before .before .before .before .pre .0 .small .states))
+turn-on-requires c κs = (c .before .before .before .before .before .before .before .before .before .pre .1 .1, shift-below _ _ (c .before .before .before .before .before .before .before .before .before .pre .0) (c .before .before .before .before .before .before .before .action-at .ensures) (c .before .before .before .before .before .s .given .1) .1)
 
 level-requires : tie.Need-level-requires
-level-requires c κs = (omega (arith, shift-below (c .before .before .before .before .before .before .before .before .before .before .before .before .args .q) (c .before .before .before .before .before .before .before .before .before .before .before .before .args .a) (c .before .before .before .before .before .before .before .before .before .before .before .before .pre .0) (sym (c .before .before .before .before .before .before .before .before .before .before .action-at .ensures) ∙ c .before .before .before .before .before .before .before .before .s .given .1), c .before .before .before .before .before .before .before .before .before .before .before .before .pre .0 .small .states), c .before .before .before .before .before .before .before .before .before .before .before .before .pre .0 .small .terminals, c .before .before .turn-on .ensures .0 .size)
+level-requires c κs = (shift-below _ _ (c .before .before .before .before .before .before .before .before .before .before .before .before .pre .0) (c .before .before .before .before .before .before .before .before .before .before .action-at .ensures) (c .before .before .before .before .before .before .before .before .s .given .1) .1, c .before .before .before .before .before .before .before .before .before .before .before .before .pre .0 .small .terminals, c .before .before .turn-on .ensures .0 .size)
 
 returns-2 : tie.Need-returns-2
 returns-2 c = (record { size = c .level .ensures .0; count = c .before .before .before .turn-on .ensures .0 .count }, step-shift (c .before .before .before .before .before .before .before .before .before .before .before .before .before .pre .0) _ _ _ _ _ _ _ _ (sym (c .before .before .before .before .before .before .before .before .before .before .before .action-at .ensures) ∙ c .before .before .before .before .before .before .before .before .before .s .given .1) (c .before .add .ensures) (record { on = c .before .before .before .before .before .before .if1 .left }) (c .before .before .before .turn-on .ensures .1) (c .level .ensures .1))

@@ -8,12 +8,6 @@ use Rattle.search.proofs.expand.last_layer.Tie as tie
 returns : tie.Need-returns
 returns c = (omega arith, λ claim k. enough-most (c .before .before .pre .1 .1) (omega arith))
 
-opens-requires : tie.Need-opens-requires
-opens-requires c κs = search needs
-
-sub-result : tie.Need-sub-result
-sub-result c = search needs
-
 returns-2 : tie.Need-returns-2
 returns-2 c = (omega arith, λ claim k. enough-most (c .before .before .before .before .pre .1 .1) (omega arith))
 
@@ -21,4 +15,4 @@ returns-3 : tie.Need-returns-3
 returns-3 c = (omega arith, λ claim k. enough-none k (c .before .opens .ensures (c .if2 .left)))
 
 pub last-layer-spec : {M : Type 1} → statement M
-last-layer-spec = tie.close (tie.spec returns opens-requires sub-result returns-2 returns-3)
+last-layer-spec = tie.close (tie.spec returns (λ c κs. search needs) (λ c. search needs) returns-2 returns-3)

@@ -8,16 +8,16 @@ use Rattle.search.proofs.expand.longest.Statement.{statement}
 use Rattle.search.proofs.expand.longest.Tie as tie
 
 abbrev Inv-loop : tie.InvT-loop
-Inv-loop cells d n most₀ p₀ most p = (p ≤ n) × ((k : ℕ) → k < p → tablesOf cells .len k ≤ most)
+Inv-loop cells d n r₀ p₀ r p = (p ≤ n) × ((k : ℕ) → k < p → tablesOf cells .len k ≤ r)
 
 abbrev μ-loop : tie.MeasureT-loop
-μ-loop cells d n most₀ p₀ most p = n - p
+μ-loop cells d n r₀ p₀ r p = n - p
 
 loop-holds : tie.Need-loop-holds Inv-loop μ-loop
 loop-holds c = (omega arith, λ k h. absurd (omega arith))
 
 loop-again : tie.Need-loop-again Inv-loop μ-loop
-loop-again c = (omega arith, longest-more (tablesOf (c .before .before .before .before .before .args .cells .now)) _ _ _ _ (c .before .before .before .loop .inv .1) (c .larger .ensures) (c .before .production-length .ensures))
+loop-again c = (omega arith, longest-more (tablesOf (c .before .before .before .before .before .args .cells .now)) _ _ _ _ (c .before .before .before .loop .inv .1) (c .most .ensures) (c .before .production-length .ensures))
 
 returns : tie.Need-returns Inv-loop μ-loop
 returns c = longest-done (c .before .before .before .pre) _ _ (c .loop-test .left) (c .before .loop .inv .1)

@@ -8,17 +8,14 @@ use borrow.Author.Needs.{needs}
 use Rattle.search.proofs.expand.lower.Statement.{statement}
 use Rattle.search.proofs.expand.lower.Tie as tie
 
-turn-on-requires : tie.Need-turn-on-requires
-turn-on-requires c κs = (c .before .before .pre .0 .0, c .before .before .pre .1 .0, c .before .before .pre .1 .1)
-
 element-copy-out-least : tie.Need-element-copy-out-least
-element-copy-out-least c = omega (arith, c .turn-on .ensures .0 .0)
+element-copy-out-least c = omega (arith, c .turn-on .ensures .0 .size)
 
 element-write-events : tie.Need-element-write-events
-element-write-events c = omega (arith, c .before .before .turn-on .ensures .0 .0)
+element-write-events c = omega (arith, c .before .before .turn-on .ensures .0 .size)
 
 returns : tie.Need-returns
-returns c = ((simp length-set (c .before .before .turn-on .ensures .0 .0), c .before .before .turn-on .ensures .0 .1), step-rows _ _ _ _ _ (c .before .before .before .before .before .args .k) (omega arith) (c .before .before .turn-on .ensures .1) (step-least _ _ _ _ _ _ _ (c .before .before .before .before .before .pre .0 .2) (omega (arith, c .before .before .turn-on .ensures .0 .0)) (c .least .ensures) refl refl))
+returns c = let o = c .before .before .turn-on .ensures in (record { size = simp length-set (o .0 .size); count = o .0 .count }, step-rows _ _ _ _ _ (c .before .before .before .before .before .args .k) (omega arith) (o .1) (step-least _ _ _ _ _ _ _ (c .before .before .before .before .before .pre .0 .2) (omega (arith, o .0 .size)) (c .least .ensures) refl refl))
 
 pub lower-spec : {M : Type 1} → statement M
 lower-spec =
@@ -26,7 +23,7 @@ lower-spec =
     (tie.spec
     (λ c. search needs)
     (λ c. search needs)
-    turn-on-requires
+    (λ c κs. search needs)
     (λ c. search needs)
     (λ c. search needs)
     (λ c. search needs)

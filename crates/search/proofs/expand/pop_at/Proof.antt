@@ -8,22 +8,22 @@ use Rattle.search.proofs.expand.pop_at.Statement.{statement}
 use Rattle.search.proofs.expand.pop_at.Tie as tie
 
 returns : tie.Need-returns
-returns c = (c .before .before .pre .1 .1, step-beyond (tablesOf (c .before .before .args .cells .now)) (c .before .before .args .at) (c .before .before .args .m) (c .before .before .args .r) (c .before .before .args .q) (c .before .before .args .c) (c .before .before .args .w) (c .if1 .taken))
+returns c = let a = c .before .before .args in (c .before .before .pre .1 .1, step-beyond (tablesOf (a .cells .now)) (a .at) (a .m) (a .r) (a .q) (a .c) (a .w) (c .if1 .taken))
 
 pop-requires : tie.Need-pop-requires
-pop-requires c κs = (c .before .before .before .before .before .before .before .before .pre .0, ((reduce-below _ _ (c .before .before .before .before .before .before .before .before .pre .0) (sym (c .before .before .before .before .before .action-at .ensures) ∙ c .before .before .before .p .given .1), c .before .before .before .before .before .before .before .before .pre .1 .0 .1, c .before .before .before .before .before .before .before .before .pre .1 .0 .2), c .before .before .before .before .before .before .before .before .pre .1 .1))
+pop-requires c κs = let p = c .before .before .before .before .before .before .before .before .pre in (p .0, ((reduce-below _ _ (p .0) (c .before .before .before .before .before .action-at .ensures) (c .before .before .before .p .given .1), p .1 .0 .1, p .1 .0 .2), p .1 .1))
 
 returns-2 : tie.Need-returns-2
-returns-2 c = (c .pop .ensures .0, step-reduce (tablesOf (c .before .before .before .before .before .before .before .before .before .args .cells .now)) (c .before .before .before .before .before .before .before .before .before .args .at) (c .before .before .before .before .before .before .before .before .before .args .m) (c .before .before .before .before .before .before .before .before .before .args .r) (c .before .before .before .before .before .before .before .before .before .args .q) (c .before .before .before .before .before .before .before .before .before .args .c) (c .before .before .before .before .before .before .before .before .before .args .w) (c .before .before .before .before .before .before .before .if1 .left) (sym (c .before .before .before .before .before .before .action-at .ensures) ∙ c .before .before .before .before .p .given .1) (c .pop .ensures .1))
+returns-2 c = let a = c .before .before .before .before .before .before .before .before .before .args in (c .pop .ensures .0, step-reduce (tablesOf (a .cells .now)) (a .at) (a .m) (a .r) (a .q) (a .c) (a .w) (c .before .before .before .before .before .before .before .if1 .left) (sym (c .before .before .before .before .before .before .action-at .ensures) ∙ c .before .before .before .before .p .given .1) (c .pop .ensures .1))
 
 returns-3 : tie.Need-returns-3
-returns-3 c = (c .before .before .before .before .before .pre .1 .1, step-error (tablesOf (c .before .before .before .before .before .args .cells .now)) (c .before .before .before .before .before .args .at) (c .before .before .before .before .before .args .m) (c .before .before .before .before .before .args .r) (c .before .before .before .before .before .args .q) (c .before .before .before .before .before .args .c) (c .before .before .before .before .before .args .w) (c .before .before .action-at .ensures) (c .enum-told .given .1))
+returns-3 c = let a = c .before .before .before .before .before .args in (c .before .before .before .before .before .pre .1 .1, step-error (tablesOf (a .cells .now)) (a .at) (a .m) (a .r) (a .q) (a .c) (a .w) (c .before .before .action-at .ensures) (c .enum-told .given .1))
 
 returns-4 : tie.Need-returns-4
-returns-4 c = (c .before .before .before .before .before .pre .1 .1, step-accept (tablesOf (c .before .before .before .before .before .args .cells .now)) (c .before .before .before .before .before .args .at) (c .before .before .before .before .before .args .m) (c .before .before .before .before .before .args .r) (c .before .before .before .before .before .args .q) (c .before .before .before .before .before .args .c) (c .before .before .before .before .before .args .w) (c .before .before .action-at .ensures) (c .enum-told2 .given .1))
+returns-4 c = let a = c .before .before .before .before .before .args in (c .before .before .before .before .before .pre .1 .1, step-accept (tablesOf (a .cells .now)) (a .at) (a .m) (a .r) (a .q) (a .c) (a .w) (c .before .before .action-at .ensures) (c .enum-told2 .given .1))
 
 returns-5 : tie.Need-returns-5
-returns-5 c = (c .before .before .before .before .before .pre .1 .1, step-shift (tablesOf (c .before .before .before .before .before .args .cells .now)) (c .before .before .before .before .before .args .at) (c .before .before .before .before .before .args .m) (c .before .before .before .before .before .args .r) (c .before .before .before .before .before .args .q) (c .before .before .before .before .before .args .c) (c .before .before .before .before .before .args .w) (c .before .before .action-at .ensures) (c .enum-told3 .given .1))
+returns-5 c = let a = c .before .before .before .before .before .args in (c .before .before .before .before .before .pre .1 .1, step-shift (tablesOf (a .cells .now)) (a .at) (a .m) (a .r) (a .q) (a .c) (a .w) (c .before .before .action-at .ensures) (c .enum-told3 .given .1))
 
 pub pop-at-spec : {M : Type 1} → statement M
 pop-at-spec =

@@ -1,7 +1,7 @@
 -- `search::settle::follow` meets its contract. Assumes nothing.
 use native.Mathlib.Omega.{arith}
 use mathlib.Core.Path.{_∙_, sym}
-use Prim.Native.Nat.{_-_, _/_}
+use Prim.Native.Nat.{_-_}
 use lib.ListN.{length-set}
 use Rattle.layers.specs.CrossingLaws.{goto-least}
 use Rattle.layers.specs.Layer.{entryIn}
@@ -11,24 +11,24 @@ use Rattle.search.proofs.settle.follow.Statement.{statement}
 use Rattle.search.proofs.settle.follow.Tie as tie
 
 waiting-at-requires : tie.Need-waiting-at-requires
-waiting-at-requires c κs = (c .before .before .before .before .pre .1 .0 .1, omega (arith, c .before .before .before .before .pre .1 .0 .3, c .before .before .before .before .pre .0 .small .nonterminals))
+waiting-at-requires c κs = (c .before .before .before .before .pre .1 .0 .1, omega (arith, c .before .before .before .before .pre .1 .0 .3, c .before .before .before .before .pre .0 .holds .small .nonterminals))
 
 returns : tie.Need-returns
-returns c = ((c .before .before .before .before .before .before .before .pre .1 .1 .1 .1 .1 .0, c .before .before .before .before .before .before .before .pre .1 .1 .1 .1 .1 .1, simp length-set (c .before .before .before .before .before .before .before .pre .1 .1 .1 .1 .1 .2)), rw (c .before .before .waiting-at .ensures) (absent (sym (c .before .goto-at .ensures) ∙ c .if1 .taken)))
+returns c = let p = c .before .before .before .before .before .before .before .pre .1 .1 .1 in ((p .0, simp length-set (p .1)), rw (c .before .before .waiting-at .ensures) (absent (sym (c .before .goto-at .ensures) ∙ c .if1 .taken)))
 
 element-copy-out-add : tie.Need-element-copy-out-add
-element-copy-out-add c = omega (arith, c .if1 .left, c .before .goto-at .ensures, goto-least (c .before .before .before .before .before .before .before .pre .0) (c .before .before .before .before .before .before .before .args .q) (c .before .before .before .before .before .before .before .args .i / 32) (c .before .before .before .before .before .before .before .pre .1 .0 .0) (omega (arith, c .before .before .before .before .before .before .before .pre .1 .0 .3)), c .before .before .before .before .before .before .before .pre .0 .small .states)
+element-copy-out-add c = omega (arith, goto-least (c .before .before .before .before .before .before .before .pre .0 .holds) _ _ (c .before .goto-at .ensures))
 
 returns-2 : tie.Need-returns-2
 unfolding entryIn
-returns-2 c = ((c .before .before .before .before .before .before .before .before .before .before .pre .1 .1 .1 .1 .1 .0, c .before .before .before .before .before .before .before .before .before .before .pre .1 .1 .1 .1 .1 .1, simp length-set (c .before .before .before .before .before .before .before .before .before .before .pre .1 .1 .1 .1 .1 .2)), hits {g = c .before .before .before .before .goto-at .result - 1} (c .before .before .before .before .goto-at .result) (omega (arith, c .before .before .before .if1 .left)) (omega (arith, c .before .before .before .if1 .left, c .before .before .before .before .goto-at .ensures)) (rw (c .before .add .ensures, c .before .before .before .before .before .waiting-at .ensures) at (c .if2 .taken)))
+returns-2 c = let p = c .before .before .before .before .before .before .before .before .before .before .pre .1 .1 .1 in ((p .0, simp length-set (p .1)), hits {g = c .before .before .before .before .goto-at .result - 1} (c .before .before .before .before .goto-at .result) (omega (arith, c .before .before .before .if1 .left)) (omega (arith, c .before .before .before .if1 .left, c .before .before .before .before .goto-at .ensures)) (rw (c .before .add .ensures, c .before .before .before .before .before .waiting-at .ensures) at (c .if2 .taken)))
 
 expand-requires : tie.Need-expand-requires
-expand-requires c κs = (c .before .before .before .before .before .before .before .before .before .before .before .before .pre .0, ((omega (arith, c .before .before .before .before .before .if1 .left, c .before .before .before .before .before .before .goto-at .ensures, goto-least (c .before .before .before .before .before .before .before .before .before .before .before .before .pre .0) (c .before .before .before .before .before .before .before .before .before .before .before .before .args .q) (c .before .before .before .before .before .before .before .before .before .before .before .before .args .i / 32) (c .before .before .before .before .before .before .before .before .before .before .before .before .pre .1 .0 .0) (omega (arith, c .before .before .before .before .before .before .before .before .before .before .before .before .pre .1 .0 .3))), c .before .before .before .before .before .before .before .before .before .before .before .before .pre .1 .0 .4, c .before .before .before .before .before .before .before .before .before .before .before .before .pre .1 .0 .1, c .before .before .before .before .before .before .before .before .before .before .before .before .pre .1 .0 .2), (c .before .before .before .before .before .before .before .before .before .before .before .before .pre .1 .1 .0, (c .before .before .before .before .before .before .before .before .before .before .before .before .pre .1 .1 .1 .0, (c .before .before .before .before .before .before .before .before .before .before .before .before .pre .1 .1 .1 .1 .0, (c .before .before .before .before .before .before .before .before .before .before .before .before .pre .1 .1 .1 .1 .1 .0, c .before .before .before .before .before .before .before .before .before .before .before .before .pre .1 .1 .1 .1 .1 .1))))))
+expand-requires c κs = let p = c .before .before .before .before .before .before .before .before .before .before .before .before .pre in (p .0, ((omega (arith, c .before .before .before .before .before .if1 .left, goto-least (p .0 .holds) _ _ (c .before .before .before .before .before .before .goto-at .ensures)), p .1 .0 .4, p .1 .0 .1, p .1 .0 .2), (p .1 .1 .0, p .1 .1 .1 .0)))
 
 returns-3 : tie.Need-returns-3
 unfolding entryIn
-returns-3 c = ((c .expand .ensures .0 .0, c .expand .ensures .0 .1, simp length-set (c .before .before .before .before .before .before .before .before .before .before .before .before .before .pre .1 .1 .1 .1 .1 .2)), rw (c .before .before .before .before .before .before .before .before .waiting-at .ensures) (passed {g = c .before .before .before .before .before .before .before .goto-at .result - 1} (omega (arith, c .before .before .before .before .before .before .if1 .left, c .before .before .before .before .before .before .before .goto-at .ensures)) (rw (c .before .before .before .before .add .ensures, c .before .before .before .before .before .before .before .before .waiting-at .ensures) at (c .before .before .before .if2 .left)) (rw (c .before .before .before .before .before .before .before .before .waiting-at .ensures) at (c .expand .ensures .1))))
+returns-3 c = let w = c .before .before .before .before .before .before .before .before .waiting-at .ensures in ((c .expand .ensures .0, simp length-set (c .before .before .before .before .before .before .before .before .before .before .before .before .before .pre .1 .1 .1 .1)), rw w (passed {g = c .before .before .before .before .before .before .before .goto-at .result - 1} (omega (arith, c .before .before .before .before .before .before .if1 .left, c .before .before .before .before .before .before .before .goto-at .ensures)) (rw (c .before .before .before .before .add .ensures, w) at (c .before .before .before .if2 .left)) (rw w at (c .expand .ensures .1))))
 
 pub follow-spec : {M : Type 1} → statement M
 follow-spec =

@@ -7,18 +7,9 @@ use Rattle.search.proofs.settle.waits.Tie as tie
 returns : tie.Need-returns
 returns c = waits-beyond _ _ _ _ _ (c .if1 .taken)
 
-waiting-at-requires : tie.Need-waiting-at-requires
-waiting-at-requires c κs = search needs
-
-mul-result : tie.Need-mul-result
-mul-result c = search needs
-
-element-copy-out-result : tie.Need-element-copy-out-result
-element-copy-out-result c = search needs
-
 returns-2 : tie.Need-returns-2
 returns-2 c = waits-test _ _ _ _ _ _ (c .before .waiting-at .ensures) (c .before .before .if1 .left)
 
 pub waits-spec : {M : Type 1} → statement M
 waits-spec =
-    tie.close (tie.spec returns waiting-at-requires mul-result element-copy-out-result returns-2)
+    tie.close (tie.spec returns (λ c κs. search needs) (λ c. search needs) (λ c. search needs) returns-2)
