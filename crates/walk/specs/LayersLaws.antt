@@ -9,10 +9,10 @@ use Rattle.book.specs.Tables.{Tables}
 use Rattle.walk.specs.Walk.{Walk}
 use Rattle.walk.specs.Scale.{Scale, long, unreached, shiftCost}
 use Rattle.walk.specs.Cost.{plus, cut, Attained}
-use Rattle.walk.specs.CostLaws.{plus-mono, plus-far-left, plus-far-right, plus-left-le, cut-within, cut-beyond, plus-cut}
+use Rattle.walk.specs.CostLaws.{plus-mono, plus-far-left, plus-left-le, cut-within, cut-beyond, plus-cut}
 use Rattle.walk.specs.Claims.{Claims, Claimed, none, shifting, crossing, Witnessed, Least, LeastWhere, Arrival, Onward}
-use Rattle.walk.specs.ClaimsLaws.{attained-shift, attained-cross, claimed-next, claimed-bounded, claimed-terminal, claimed-shift, claimed-goto, Start, nowhere, shift-first, goto-first, claimed-start}
-use Rattle.walk.specs.Layers.{Longer, add-shift, add-goto, Sooner, from-shift, from-goto, Layer, LayerWhere, LayerWithin, cutAt, Leads, by-shift, by-goto, Hereditary, FromStart, ToGoal}
+use Rattle.walk.specs.ClaimsLaws.{attained-shift, attained-cross, claimed-next, claimed-bounded, claimed-terminal, Start, nowhere, shift-first, goto-first, claimed-start}
+use Rattle.walk.specs.Layers.{Longer, add-shift, add-goto, from-shift, from-goto, Layer, LayerWhere, LayerWithin, cutAt, Leads, by-shift, by-goto, Hereditary, FromStart, ToGoal}
 
 -- a walk costs no less than its part before the last transition
 pub bound-hereditary : {σ : Scale} {B : Tables} (bound : ℕ) → Hereditary σ B (λ n q x. x ≤ bound)
@@ -91,18 +91,6 @@ module _ {σ : Scale} {B : Tables} {claim : Claims} where
 
     pub start-least : {s z : ℕ} → z < B .terminals → Least σ (Arrival σ B claim s z) (D s z)
     start-least {s} {z} h = record { below = λ x (a, n, c). start-below refl c; attained = f .attained s z h }
-
-  -- distances to the goal pairs, likewise
-  pub onward-sooner : {Goal : ℕ → ℕ → Type 0} {G : ℕ → ℕ → ℕ} {q a v : ℕ} → ((q a : ℕ) → a < B .terminals → (G q a ≡ unreached σ) ⊎ Onward σ B claim Goal q a (G q a))
-      → a < B .terminals → Sooner σ B claim G q a v → (v ≡ unreached σ) ⊎ Onward σ B claim Goal q a v
-  onward-sooner f k (from-shift {q₁} b e h) = ⊎-elim
-      (λ i. inl (plus-far-right σ _ _ (omega arith)))
-      (λ (n, s, z, j, c). inr (suc n, s, z, j, claimed-shift e k c))
-      (f q₁ b h)
-  onward-sooner f k (from-goto {q₁} X b g h) = ⊎-elim
-      (λ i. inl (plus-far-right σ _ _ (omega arith)))
-      (λ (n, s, z, j, c). inr (suc n, s, z, j, claimed-goto X g k c))
-      (f q₁ b h)
 
   module _ {Goal : ℕ → ℕ → Type 0} {G : ℕ → ℕ → ℕ} (f : ToGoal σ B claim Goal G) where
     goal-below : {q a v z s : ℕ} (n : ℕ) → Goal s z → a < B .terminals → Start σ B claim q a v z n s → G q a ≤ v
