@@ -3,7 +3,6 @@ use mathlib.Core.List.{List}
 use Prim.Native.Nat.{ℕ}
 use denote.Ref.{RefT, now}
 use Rattle.lists.specs.List.{listIn, listing, nextAt}
-use Rattle.lists.specs.declared.Given.{Given}
 use Rattle.lists.specs.declared.Given.the-variants.{Found as One, None as Nothing}
 use Rattle.lists.specs.declared.Listing.{Listing}
 use Rattle.lists.specs.declared.Listing.the-variants.{Entries, Refused}

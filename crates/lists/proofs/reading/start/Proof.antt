@@ -40,8 +40,9 @@ use denote.Triple.Walked.{says, Stays, stay-none-slice, walkOf, goes-none-slice,
 use denote.Exit.{yes}
 use denote.Triple.Clauses.{ensured, lasts}
 use Rattle.lists.specs.List.{listIn, listing}
-use Rattle.lists.specs.Reading.{opened, readerOn}
+use Rattle.lists.specs.Reading.{opened}
 use Rattle.lists.specs.declared.Opened.{Opened}
+use Rattle.lists.specs.declared.Reader.{Reader}
 use Rattle.lists.proofs.Reader as T
 use Rattle.lists.proofs.Reader.Laws as T′
 use Rattle.lists.proofs.Opened as S
@@ -57,6 +58,10 @@ use Rattle.lists.proofs.reading.start.Code as code
 
 abbrev stayed : Stays (start.ended .signature .params) (start.ended .kept)
 stayed = (stay-none-slice (0 ∷ []) tt (plain (λ _. u16)) yes, (stay-none-slice (1 ∷ []) tt (plain (λ _. u8)) yes, tt))
+
+-- the struct that is made of the list and of what `open` answers
+abbrev made : RefT (List ℕ) → Opened → Reader
+made s r = record { list = s; at = r .at; left = r .left; number = r .number; place = r .place }
 
 -- the result's relation at its machine value, written out
 lowered-is : (r : Opened) (u : Val) → Is S.the-row r (u ∷ []) → Is S.the-row r (S′.lowered r ∷ [])
@@ -116,11 +121,11 @@ module _ {M : Type 1} (𝓤 : URA M) (H : Heap 𝓤) (A : Atoms 𝓤) (W : Given
   said r = exE 𝓤 _ (λ ws. snd∗ 𝓤 (sem 𝓤 H A (lasts opening.ended (κ, (κ′, tt)) (c, (s, tt)) ws)) (fact 𝓤 (r ≡ found)))
 
   module _ (r : Opened) (u : Val) (is : Is S.the-row r (u ∷ [])) where
-    exits : r ≡ found → ent 𝓤 (⋆ 𝓤 H A ((‵ (flft κ q) ⊛ ‵ (flft κ′ q′) ⊛ ‵ ftrue) ∷ ‵ OwnS ∷ ‵ OwnC ∷ [])) (Post (T′.lowered (readerOn s r)))
+    exits : r ≡ found → ent 𝓤 (⋆ 𝓤 H A ((‵ (flft κ q) ⊛ ‵ (flft κ′ q′) ⊛ ‵ ftrue) ∷ ‵ OwnS ∷ ‵ OwnC ∷ [])) (Post (T′.lowered (made s r)))
     exits e =
         let known = LL.owed S.the-type S′.the-laws r _ is in
         qed W ((‵ (flft κ q) ⊛ ‵ (flft κ′ q′) ⊛ ‵ ftrue) ∷ ‵ OwnS ∷ ‵ OwnC ∷ []) ∵
-        suffices ! _ (ends-at 𝓤 H A start.ended stayed (start.clauses 𝓤 H A mem run) W (((κ, (κ′, tt)), (q, (q′, tt)), tt, (c, (s, tt)), at), tt) (T′.lowered (readerOn s r)) (readerOn s r) (tt, (tt, tt)) (tt, (tt, tt))) $ says ! (ap (readerOn s) e) $
+        suffices ! _ (ends-at 𝓤 H A start.ended stayed (start.clauses 𝓤 H A mem run) W (((κ, (κ′, tt)), (q, (q′, tt)), tt, (c, (s, tt)), at), tt) (T′.lowered (made s r)) (made s r) (tt, (tt, tt)) (tt, (tt, tt))) $ says ! (ap (made s) e) $
         frame ! $ use1 W (‵ OwnS ⊛ ‵ OwnS) (shr-slice-copy 𝓤 H A W (named 1) κ′ u8 .twice s (v′ ∷ [])) $ split ! $
         nothing ! $ move ! (1 ∷ 0 ∷ []) $ fjoin ! $ move ! (2 ∷ 0 ∷ []) $ fjoin ! $ frame ! $
         -- [what the list owns]: what the fields own together is what the struct owns
