@@ -5,18 +5,6 @@ use borrow.Author.Needs.{needs}
 use Rattle.lists.proofs.index.nth_entry.Statement.{statement}
 use Rattle.lists.proofs.index.nth_entry.Tie as tie
 
-check-list-requires : tie.Need-check-list-requires
-check-list-requires c κs = search needs
-
-enum-known-r : tie.Need-enum-known-r
-enum-known-r c = search needs
-
-enum-known-rest : tie.Need-enum-known-rest
-enum-known-rest c = search needs
-
-nth-from-requires : tie.Need-nth-from-requires
-nth-from-requires c κs = search needs
-
 returns : tie.Need-returns
 returns c = nth-stop _ _ _ _ (sym (c .before .before .before .check-list .ensures) ∙ c .before .r .given .1)
 
@@ -26,4 +14,4 @@ returns-2 c = nth-on _ _ _ _ _ (sym (c .before .before .before .before .check-li
 pub nth-entry-spec : {M : Type 1} → statement M
 nth-entry-spec =
     tie.close
-    (tie.spec check-list-requires enum-known-r enum-known-rest nth-from-requires returns returns-2)
+    (tie.spec (λ c κs. search needs) (λ c. search needs) (λ c. search needs) (λ c κs. search needs) returns returns-2)

@@ -6,18 +6,6 @@ use borrow.Author.Needs.{needs}
 use Rattle.lists.proofs.list.check_list.Statement.{statement}
 use Rattle.lists.proofs.list.check_list.Tie as tie
 
-check-requires : tie.Need-check-requires
-check-requires c κs = search needs
-
-enum-known-r : tie.Need-enum-known-r
-enum-known-r c = search needs
-
-enum-known-d : tie.Need-enum-known-d
-enum-known-d c = search needs
-
-check-entries-requires : tie.Need-check-entries-requires
-check-entries-requires c κs = search needs
-
 returns : tie.Need-returns
 returns c = against-stop _ _ _ (sym (c .before .before .before .check .ensures) ∙ c .before .r .given .1)
 
@@ -27,4 +15,4 @@ returns-2 c = c .check-entries .ensures ∙ ap (listing _) (against-on _ _ _ (sy
 pub check-list-spec : {M : Type 1} → statement M
 check-list-spec =
     tie.close
-    (tie.spec check-requires enum-known-r enum-known-d check-entries-requires returns returns-2)
+    (tie.spec (λ c κs. search needs) (λ c. search needs) (λ c. search needs) (λ c κs. search needs) returns returns-2)

@@ -9,18 +9,6 @@ returns : tie.Need-returns
 unfolding nextAt
 returns c = rw (eq-eqb _ _ (c .if1 .taken))
 
-entry-at-requires : tie.Need-entry-at-requires
-entry-at-requires c κs = search needs
-
-enum-told : tie.Need-enum-told
-enum-told c = search needs
-
-enum-known-e : tie.Need-enum-known-e
-enum-known-e c = search needs
-
-sub-t9 : tie.Need-sub-t9
-sub-t9 c = search needs
-
 returns-2 : tie.Need-returns-2
 unfolding nextAt
 returns-2 c = rw (ne-eqb _ _ (c .before .before .before .if1 .left), ← c .before .before .entry-at .ensures, c .enum-told .given .1)
@@ -32,4 +20,4 @@ returns-3 c = rw (ne-eqb _ _ (c .before .before .before .before .if1 .left), ←
 pub next-at-spec : {M : Type 1} → statement M
 next-at-spec =
     tie.close
-    (tie.spec returns entry-at-requires enum-told enum-known-e sub-t9 returns-2 returns-3)
+    (tie.spec returns (λ c κs. search needs) (λ c. search needs) (λ c. search needs) (λ c. search needs) returns-2 returns-3)
