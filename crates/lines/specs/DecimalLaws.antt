@@ -1,8 +1,9 @@
 -- Laws of decimal digits. Assumes nothing.
 use mathlib.Core.List.{List, [], _∷_, _++_, append-assoc, append-nil}
 use mathlib.Core.Path.{_≡_, refl, sym, _∙_, ap}
-use Prim.Native.Nat.{ℕ, zero, suc, _+_, _-_, _/_, _%_, _≤_, _<_}
+use Prim.Native.Nat.{ℕ, zero, suc, _+_, _-_, _*_, _/_, _%_, _^_, _≤_, _<_}
 use native.Mathlib.Decide.{decLt}
+use native.Mathlib.Nat.{pow-suc}
 use native.Mathlib.Omega.{arith}
 use borrow.Author.Tests.{lt-ltb, le-ltb}
 use lib.ListN.{length, take, drop, set, length-append, length-drop, length-set}
@@ -44,6 +45,39 @@ decimal-byte n h =
 
 pub decimal-most : (n : ℕ) → length (decimal n) ≤ 20
 decimal-most n = digits-most 20 n
+
+-- ---- reading digits back
+-- the number of ASCII digits, the highest first, after digits of the number n
+unfoldable pub valueAfter : ℕ → List ℕ → ℕ
+valueAfter n [] = n
+valueAfter n (c ∷ w) = valueAfter (n * 10 + (c - 48)) w
+
+abbrev pub value : List ℕ → ℕ
+value w = valueAfter 0 w
+
+value-last : (n : ℕ) (w : List ℕ) (c : ℕ) → valueAfter n (w ++ c ∷ []) ≡ valueAfter n w * 10 + (c - 48)
+unfolding valueAfter
+value-last n [] c = refl
+value-last n (b ∷ w) c = value-last (n * 10 + (b - 48)) w c
+
+digits-read : (k n : ℕ) → n < 10 ^ k → value (digits k n) ≡ n
+unfolding valueAfter
+digits-read zero n h = rw (digits-none n) (omega arith)
+digits-read (suc k) n h = go (decLt n 10) (λ l. digits-read k (n / 10) l)
+  where
+    go : Dec (n < 10) → (n / 10 < 10 ^ k → value (digits k (n / 10)) ≡ n / 10) → value (digits (suc k) n) ≡ n
+    go (yes l) r = rw (digits-last k n l) (omega arith)
+    go (no l) r =
+        let less : n / 10 < 10 ^ k = omega (arith, pow-suc 10 k) in
+        rw (digits-more k n (omega arith), value-last, r less) (omega arith)
+
+-- the digits of a number read as that number ..
+pub decimal-read : (n : ℕ) → n < 10 ^ 20 → value (decimal n) ≡ n
+decimal-read n h = digits-read 20 n h
+
+-- .. so that two numbers of 64 bits have the same digits only if they are equal
+pub decimal-one : (m n : ℕ) → m < 2 ^ 64 → n < 2 ^ 64 → decimal m ≡ decimal n → m ≡ n
+decimal-one m n g h e = sym (decimal-read m (omega arith)) ∙ ap value e ∙ decimal-read n (omega arith)
 
 -- ---- spelling a number from its last digit on: what is left of it has its digits before those that stand from i on
 pub record Spelling (n : ℕ) (text : List ℕ) (i rest : ℕ) : Type 0 where
