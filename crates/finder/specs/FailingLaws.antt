@@ -15,15 +15,11 @@ use Rattle.layers.specs.CrossingLaws.{terminals-are}
 use Rattle.distances.specs.Distances.{StartTable}
 use Rattle.finder.specs.AgreementLaws.{both}
 use Rattle.finder.specs.Failing.{isError, FailingPair, Decides}
-use Rattle.finder.specs.Reached.{reachedIn, maskIn}
+use Rattle.finder.specs.Reached.{reachedIn, maskIn, failsIn}
 use Rattle.finder.specs.ReachedLaws.{row-reached}
 
 pub decides-one : {a b : Bool} {P : Type 0} → Decides a P → Decides b P → a ≡ b
 decides-one {a} {b} x y = both a b (λ e. y .1 (x .0 e)) (λ e. x .1 (y .0 e))
-
--- whether (s, z) fails, by the set of the reached lookaheads of s among the first t terminals
-abbrev pub failsIn : List ℕ → List ℕ → ℕ → ℕ → ℕ → Bool
-failsIn cells dist t s z = isError (tablesOf cells .act s z) && member (maskIn dist t s) z
 
 pub is-error : (x : Action) → isError x ≡ true → x ≡ Error
 is-error Error e = refl

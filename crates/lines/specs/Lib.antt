@@ -5,6 +5,7 @@ pub mod DecimalLaws
 pub mod Line
 pub mod LineLaws
 pub mod StateLaws
+pub mod Parts
 pub mod Prepare
 pub mod PrepareLaws
 pub mod Put

@@ -14,10 +14,10 @@ use Rattle.walk.specs.Scale.{plain}
 use Rattle.walk.specs.ShortestLaws.{cost-length}
 use Rattle.finder.specs.Finder.{Answered, found, sentence}
 use Rattle.finder.specs.declared.Found.{Found}
-use Rattle.finder.specs.declared.Found.the-variants.{Unreached, Long, Sentence, Refused}
 use Rattle.lines.specs.Decimal.{decimal}
 use Rattle.lines.specs.DecimalLaws.{decimal-byte}
-use Rattle.lines.specs.Line.{spaced, line, unreached, long, told, pairLine, Listed}
+use Rattle.lines.specs.Line.{spaced, line, told, pairLine, Listed}
+use Rattle.lines.specs.Parts.{words, Fitting}
 use Rattle.lines.specs.Put.{Put}
 use Rattle.lines.specs.PutLaws.{put-then}
 
@@ -27,19 +27,6 @@ two-words a b c d = simp append-assoc
 
 pub pair-words : (a b : List ℕ) (ws : List (List ℕ)) → (a ++ 32 ∷ b) ++ (spaced ws ++ 10 ∷ []) ≡ line a (b ∷ ws)
 pair-words a b ws = simp append-assoc
-
--- the words of an answer whose sentence stands at the front of a buffer; none for a refusal, which no pair of a book has
-abbrev pub words : Found → List ℕ → List (List ℕ)
-words Unreached buffer = unreached ∷ []
-words Long buffer = long ∷ []
-words (Sentence n) buffer = decimal n ∷ map decimal (take n buffer)
-words (Refused r) buffer = []
-
-abbrev pub Fitting : Found → List ℕ → Type 0
-Fitting Unreached buffer = Unit {0}
-Fitting Long buffer = Unit {0}
-Fitting (Sentence n) buffer = (n ≤ plain .limit) × (n ≤ length buffer)
-Fitting (Refused r) buffer = ⊥
 
 outcome-words : (o : Outcome) (buffer : List ℕ) → words (found o) (over (sentence o) buffer) ≡ told o
 outcome-words Never buffer = refl

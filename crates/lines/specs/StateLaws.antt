@@ -1,6 +1,6 @@
 -- Laws of the lines of a state. Assumes nothing.
 use mathlib.Core.Bool.{Bool, true, false, cond, false≢true}
-use mathlib.Core.List.{List, [], _++_, append-nil}
+use mathlib.Core.List.{List, []}
 use mathlib.Core.Path.{_≡_, refl, sym, _∙_, ap}
 use Prim.Native.Nat.{ℕ, zero, suc, _+_, _*_, _≤_, _<_}
 use native.Mathlib.Decide.{ℕ-discrete}
@@ -18,15 +18,11 @@ use Rattle.walk.specs.Scale.{plain}
 use Rattle.finder.specs.Failing.{isError}
 use Rattle.finder.specs.FailingLaws.{is-error}
 use Rattle.lines.specs.Line.{pairLine, Listed, actionLine, stateLines, StateListed}
+use Rattle.lines.specs.Parts.{ActionListed}
 use Rattle.lines.specs.Put.{Put}
 use Rattle.lines.specs.PutLaws.{put-then}
 
--- the line of one action, where it has one
-pub record ActionListed (B : Tables) (s z : ℕ) (lent : List ℕ) (at : ℕ) (left : List ℕ) (next : ℕ) : Type 0 where
-  pub outcome : Outcome
-  pub right : B .act s z ≡ Error → Answer plain (λ a. a) B s z outcome
-  pub put : Put (actionLine B s z outcome) lent at left next
-
+-- the line of one action
 module _ {B : Tables} {s z : ℕ} {lent : List ℕ} {at : ℕ} where
   pub action-none : isError (B .act s z) ≡ false → ActionListed B s z lent at lent at
   action-none e = record {

@@ -6,7 +6,7 @@ ghost use Rattle.book.specs.TablesLaws.{Holds};
 ghost use Rattle.walk.specs.Scale.{plain};
 ghost use Rattle.crossings.specs.Crossings.{CrossingTable};
 ghost use Rattle.lines.specs.Line.{StateListed};
-ghost use Rattle.lines.specs.StateLaws.{ActionListed};
+ghost use Rattle.lines.specs.Parts.{ActionListed};
 use crate::line::put_pair;
 use book::Sizes;
 use finder::is_error;

@@ -3,7 +3,7 @@ use native.Mathlib.Nat.{sub-zero}
 use mathlib.Core.Path.{_≡_, sym, _∙_}
 use native.Mathlib.Omega.{arith}
 use Prim.Native.Nat.{_-_, _≤_}
-use Rattle.finder.specs.FailingLaws.{failsIn}
+use Rattle.finder.specs.Reached.{failsIn}
 use Rattle.judgement.specs.Coverage.{some, stateFails}
 use Rattle.judgement.specs.CoverageLaws.{some-here, some-on, some-done}
 use borrow.Author.Needs.{needs}

@@ -6,8 +6,9 @@ use Prim.Native.Nat.{ℕ, _-_, _≤_}
 use native.Mathlib.Omega.{arith}
 use native.Mathlib.Nat.{le-antisymm}
 use Rattle.sets.specs.Set.{countOf, member}
-use Rattle.finder.specs.FailingLaws.{failsIn}
-use Rattle.lines.specs.CountsLaws.{errorIn, count-step, count-most, one-most}
+use Rattle.finder.specs.Reached.{failsIn}
+use Rattle.lines.specs.Parts.{errorIn}
+use Rattle.lines.specs.CountsLaws.{count-step, count-most, one-most}
 use Rattle.lines.proofs.counts.row.Statement.{statement}
 use Rattle.lines.proofs.counts.row.Tie as tie
 

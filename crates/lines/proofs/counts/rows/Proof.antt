@@ -4,9 +4,10 @@ use mathlib.Core.Path.{_≡_}
 use Prim.Native.Nat.{_-_, _≤_}
 use native.Mathlib.Omega.{arith}
 use native.Mathlib.Nat.{le-antisymm}
-use Rattle.finder.specs.FailingLaws.{failsIn}
+use Rattle.finder.specs.Reached.{failsIn}
 use Rattle.lines.specs.Counts.{pairsOf}
-use Rattle.lines.specs.CountsLaws.{errorIn, pairs-step, pairs-few, count-most}
+use Rattle.lines.specs.Parts.{errorIn}
+use Rattle.lines.specs.CountsLaws.{pairs-step, pairs-few, count-most}
 use Rattle.lines.proofs.counts.rows.Statement.{statement}
 use Rattle.lines.proofs.counts.rows.Tie as tie
 

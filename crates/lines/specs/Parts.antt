@@ -1,0 +1,39 @@
+-- What the functions that put the parts of a line, and count the parts of a header, promise. Assumes nothing.
+use mathlib.Core.Bool.{Bool}
+use mathlib.Core.List.{List, [], _∷_, map}
+use mathlib.Core.Path.{_≡_}
+use Prim.Native.Nat.{ℕ, _≤_}
+use lib.ListN.{length, take}
+use Rattle.book.specs.Tables.{Tables, tablesOf}
+use Rattle.book.specs.declared.Action.the-variants.{Error}
+use Rattle.walk.specs.Answer.{Outcome, Answer}
+use Rattle.walk.specs.Scale.{plain}
+use Rattle.finder.specs.Failing.{isError}
+use Rattle.finder.specs.declared.Found.{Found}
+use Rattle.finder.specs.declared.Found.the-variants.{Unreached, Long, Sentence, Refused}
+use Rattle.lines.specs.Decimal.{decimal}
+use Rattle.lines.specs.Line.{unreached, long, actionLine}
+use Rattle.lines.specs.Put.{Put}
+
+-- the pairs whose action is error
+abbrev pub errorIn : List ℕ → ℕ → ℕ → Bool
+errorIn cells s z = isError (tablesOf cells .act s z)
+
+-- the words of an answer whose sentence stands at the front of a buffer; none for a refusal, which no pair of a book has
+abbrev pub words : Found → List ℕ → List (List ℕ)
+words Unreached buffer = unreached ∷ []
+words Long buffer = long ∷ []
+words (Sentence n) buffer = decimal n ∷ map decimal (take n buffer)
+words (Refused r) buffer = []
+
+abbrev pub Fitting : Found → List ℕ → Type 0
+Fitting Unreached buffer = Unit {0}
+Fitting Long buffer = Unit {0}
+Fitting (Sentence n) buffer = (n ≤ plain .limit) × (n ≤ length buffer)
+Fitting (Refused r) buffer = ⊥
+
+-- the line of one action, where it has one
+pub record ActionListed (B : Tables) (s z : ℕ) (lent : List ℕ) (at : ℕ) (left : List ℕ) (next : ℕ) : Type 0 where
+  pub outcome : Outcome
+  pub right : B .act s z ≡ Error → Answer plain (λ a. a) B s z outcome
+  pub put : Put (actionLine B s z outcome) lent at left next
