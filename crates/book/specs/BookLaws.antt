@@ -53,7 +53,7 @@ head-number i = go (ℕ-discrete i 0)
     go (yes h) e = omega (arith, rw (eq-eqb i 0 h) at e)
     go (no h) e = omega (arith, rw (ne-eqb i 0 h) at e)
 
-head-range : (i v : ℕ) → headFault i v ≡ 0 → (getD lowest i 0 ≤ v) × (v ≤ getD highest i 0)
+pub head-range : (i v : ℕ) → headFault i v ≡ 0 → (getD lowest i 0 ≤ v) × (v ≤ getD highest i 0)
 unfolding headFault
 head-range i v e = go (decLe (getD lowest i 0) v) (decLe v (getD highest i 0))
   where

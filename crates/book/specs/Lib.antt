@@ -8,5 +8,6 @@ pub mod Range
 pub mod RangeLaws
 pub mod RoundTripLaws
 pub mod RowLaws
+pub mod SizeLaws
 pub mod Tables
 pub mod TablesLaws

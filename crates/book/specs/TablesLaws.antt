@@ -48,7 +48,7 @@ unless-held true k e = refl
 unless-held false k e = absurd (omega arith)
 
 -- each cell after the head is in its range
-cell-fits : {d : Sizes} {cells : List ℕ} → Holds d cells → (i : ℕ) → i < bodyLength d → fits d i (getD cells (5 + i) 0) ≡ true
+pub cell-fits : {d : Sizes} {cells : List ℕ} → Holds d cells → (i : ℕ) → i < bodyLength d → fits d i (getD cells (5 + i) 0) ≡ true
 unfolding ofCells bodyFault
 cell-fits {d} {cells} h i l =
     let w = book-whole (cellAt cells) (length cells) cells (length cells) (h .book) in

@@ -1,0 +1,303 @@
+-- 'The longest book has 16,647 bytes': no book has more, nor more than 8,453 cells, and one has as many. Assumes nothing.
+use mathlib.Core.Bool.{true, false≢true}
+use mathlib.Core.List.{List, [], _∷_, _++_}
+use mathlib.Core.Path.{_≡_, refl, sym, _∙_, ap}
+use Prim.Native.Nat.{ℕ, zero, suc, _+_, _*_, _-_, _/_, _%_, _≤_, _<_}
+use native.Mathlib.Decide.{decLt, ℕ-discrete}
+use native.Mathlib.Nat.{zero-add, add-zero, zero-mul, suc-mul}
+use native.Mathlib.Numerals.{add-one}
+use native.Mathlib.Omega.{arith}
+use borrow.Author.Tests.{lt-ltb, le-ltb, le-leb, eq-eqb, ne-eqb, ltb-true, leb-true}
+use lib.ListN.{length, getD, take, drop, replicate, length-append, length-take, length-drop, length-replicate, getD-replicate, take-append-drop, List·getD-append, List·getD-eq-default}
+use lib.Seq.{drop-cons, drop-drop, getD-append-add, getD-drop, getD-take, take-all}
+use Rattle.number.specs.Number.{written}
+use Rattle.number.specs.NumberLaws.{Bytes, written-one, written-two}
+use Rattle.book.specs.Action.{actionOf, codeOf}
+use Rattle.book.specs.ActionLaws.{action-odd, code-action}
+use Rattle.book.specs.Book.{cellAt, read, row, bookIn, ofBytes, ofCells, bytesOf, checked}
+use Rattle.book.specs.BookLaws.{book-whole, cells-row, checked-valid, head-range, sizes-take}
+use Rattle.book.specs.BytesLaws.{bytes-append}
+use Rattle.book.specs.Range.{highest, headFault, bodyFault, bodyLength, allowed, fits, Small}
+use Rattle.book.specs.RangeLaws.{actions-few, gotos-few}
+use Rattle.book.specs.RoundTripLaws.{read-written, written-read}
+use Rattle.book.specs.RowLaws.{row-clean}
+use Rattle.book.specs.Tables.{sizesOf}
+use Rattle.book.specs.TablesLaws.{Holds, valid-holds, cell-fits}
+use Rattle.book.specs.declared.Action.{Action}
+use Rattle.book.specs.declared.Action.the-variants.{Error, Accept, Shift, Reduce}
+use Rattle.book.specs.declared.Checked.the-variants.{Valid}
+use Rattle.book.specs.declared.Sizes.{Sizes}
+
+-- ---- at most so many cells
+pub book-cells-most : (cells : List ℕ) (d : Sizes) → checked (ofCells cells) ≡ Valid d → length cells ≤ 8453
+book-cells-most cells d e = let h = valid-holds cells d e in omega (arith, h .count, h .small .productions, actions-few d (h .small), gotos-few d (h .small))
+
+-- ---- the widths of numbers
+narrow : (n : ℕ) → n < 128 → length (written n) ≤ 1
+narrow n h = rw (written-one n h) (omega arith)
+
+wide : (n : ℕ) → n < 16384 → length (written n) ≤ 2
+wide n h = go (decLt n 128)
+  where
+    go : Dec (n < 128) → length (written n) ≤ 2
+    go (yes l) = omega (arith, narrow n l)
+    go (no l) = rw (written-two n (omega arith) h) (omega arith)
+
+bytes-narrow : (vs : List ℕ) → ((j : ℕ) → j < length vs → getD vs j 0 < 128) → length (bytesOf vs) ≤ length vs
+bytes-narrow [] h = omega arith
+bytes-narrow (v ∷ vs) h = rw length-append (omega (arith, narrow v (h 0 (omega arith)), bytes-narrow vs (λ j l. h (suc j) (omega arith))))
+
+bytes-wide : (vs : List ℕ) → ((j : ℕ) → j < length vs → getD vs j 0 < 16384) → length (bytesOf vs) ≤ 2 * length vs
+bytes-wide [] h = omega arith
+bytes-wide (v ∷ vs) h = rw length-append (omega (arith, wide v (h 0 (omega arith)), bytes-wide vs (λ j l. h (suc j) (omega arith))))
+
+bytes-split : (i : ℕ) (vs : List ℕ) → length (bytesOf vs) ≡ length (bytesOf (take i vs)) + length (bytesOf (drop i vs))
+bytes-split i vs = ap (λ (l : List ℕ). length (bytesOf l)) (sym (take-append-drop i vs)) ∙ rw (bytes-append, length-append)
+
+-- ---- the widths of a book's numbers
+action-wide : (d : Sizes) → Small d → (t v : ℕ) (x : Action) → allowed d t x ≡ true → codeOf x ≡ v → v < 16384
+unfolding allowed codeOf
+action-wide d h t v Error e f = omega arith
+action-wide d h t v Accept e f = omega arith
+action-wide d h t v (Shift s) e f = go (ℕ-discrete t 0)
+  where
+    go : Dec (t ≡ 0) → v < 16384
+    go (yes z) = absurd (false≢true (rw (eq-eqb t 0 z) at e))
+    go (no z) = omega (arith, ltb-true s (d .s) (rw (ne-eqb t 0 z) at e), h .states)
+action-wide d h t v (Reduce p) e f = omega (arith, ltb-true p (d .p) e, h .productions)
+
+module _ (d : Sizes) (h : Small d) (i v : ℕ) where
+  production-narrow : i < 2 * d .p → fits d i v ≡ true → v < 128
+  unfolding fits
+  production-narrow l e = go (ℕ-discrete (i % 2) 0)
+    where
+      go : Dec (i % 2 ≡ 0) → v < 128
+      go (yes z) = omega (arith, ltb-true v (d .n) (rw (lt-ltb i (2 * d .p) l, eq-eqb (i % 2) 0 z) at e), h .nonterminals)
+      go (no z) = omega (arith, leb-true v 32 (rw (lt-ltb i (2 * d .p) l, ne-eqb (i % 2) 0 z) at e))
+
+  fits-wide : fits d i v ≡ true → v < 16384
+  unfolding fits
+  fits-wide e = go (decLt i (2 * d .p)) (decLt i (2 * d .p + d .s * d .t))
+    where
+      go : Dec (i < 2 * d .p) → Dec (i < 2 * d .p + d .s * d .t) → v < 16384
+      go (yes l) k = omega (arith, production-narrow l e)
+      go (no l) (yes k) =
+          action-wide d h ((i - 2 * d .p) % d .t) v (actionOf v) (rw (le-ltb i (2 * d .p) (omega arith), lt-ltb i (2 * d .p + d .s * d .t) k) at e) (code-action v)
+      go (no l) (no k) = omega (arith, leb-true v (d .s) (rw (le-ltb i (2 * d .p) (omega arith), le-ltb i (2 * d .p + d .s * d .t) (omega arith)) at e), h .states)
+
+highest-narrow : (j : ℕ) → j < 3 → getD highest j 0 < 128
+highest-narrow zero l = omega arith
+highest-narrow (suc zero) l = omega arith
+highest-narrow (suc (suc zero)) l = omega arith
+highest-narrow (suc (suc (suc j))) l = absurd (omega arith)
+
+highest-wide : (j : ℕ) → getD highest j 0 < 16384
+highest-wide zero = omega arith
+highest-wide (suc zero) = omega arith
+highest-wide (suc (suc zero)) = omega arith
+highest-wide (suc (suc (suc zero))) = omega arith
+highest-wide (suc (suc (suc (suc zero)))) = omega arith
+highest-wide (suc (suc (suc (suc (suc j))))) = omega arith
+
+module _ {d : Sizes} {cells : List ℕ} (h : Holds d cells) where
+  head-most : (j : ℕ) → j < 5 → getD cells j 0 ≤ getD highest j 0
+  unfolding ofCells
+  head-most j l =
+      let w = book-whole (cellAt cells) (length cells) cells (length cells) (h .book) in
+      let p = cells-row cells headFault 5 0 0 (w .head) (w .at) (w .first) (omega arith) in
+      let there : getD (w .head) j 0 ≡ getD cells j 0 = rw (p .part, getD-take 5 cells j 0 l) in
+      head-range j _ (rw (zero-add, there) at (row-clean (cellAt cells) headFault 5 0 0 (w .head) (w .at) (w .first) j l)) .1
+
+  pub cell-wide : (i : ℕ) → getD cells i 0 < 16384
+  cell-wide i = go (decLt i 5) (decLt i (length cells))
+    where
+      go : Dec (i < 5) → Dec (i < length cells) → getD cells i 0 < 16384
+      go (yes l) r = omega (arith, head-most i l, highest-wide i)
+      go (no l) (yes r) =
+          let k : 5 + (i - 5) ≡ i = omega arith in
+          fits-wide d (h .small) (i - 5) (getD cells i 0) (rw k at (cell-fits h (i - 5) (omega (arith, h .count))))
+      go (no l) (no r) = let out : length cells ≤ i = omega arith in rw (List·getD-eq-default cells 0 out) (omega arith)
+
+  -- the form, T and N
+  sizes-narrow : (j : ℕ) → j < length (take 3 cells) → getD (take 3 cells) j 0 < 128
+  sizes-narrow j l =
+      let k : j < 3 = omega (arith, length-take 3 cells) in
+      rw (getD-take 3 cells j 0 k) (omega (arith, head-most j (omega arith), highest-narrow j k))
+
+  productions-narrow : (j : ℕ) → j < length (take (2 * d .p) (drop 5 cells)) → getD (take (2 * d .p) (drop 5 cells)) j 0 < 128
+  productions-narrow j l =
+      let k : j < 2 * d .p = omega (arith, length-take (2 * d .p) (drop 5 cells)) in
+      rw (getD-take (2 * d .p) (drop 5 cells) j 0 k, getD-drop) (production-narrow d (h .small) j _ k (cell-fits h j (omega arith)))
+
+  cells-bytes : length (bytesOf cells) ≤ 16647
+  cells-bytes =
+      let rest : drop 2 (drop 3 cells) ≡ drop 5 cells = drop-drop 2 3 cells in
+      let after : length (bytesOf (drop 3 cells)) ≡ length (bytesOf (take 2 (drop 3 cells))) + length (bytesOf (drop 5 cells)) = rw rest at (bytes-split 2 (drop 3 cells)) in
+      let a = bytes-narrow (take 3 cells) sizes-narrow in
+      let b = bytes-wide (take 2 (drop 3 cells)) (λ j l. rw (getD-take 2 (drop 3 cells) j 0 (omega (arith, length-take 2 (drop 3 cells))), getD-drop) (cell-wide (3 + j))) in
+      let c = bytes-narrow (take (2 * d .p) (drop 5 cells)) productions-narrow in
+      let e = bytes-wide (drop (2 * d .p) (drop 5 cells)) (λ j l. rw (getD-drop (2 * d .p) (drop 5 cells) j 0, getD-drop) (cell-wide (5 + (2 * d .p + j)))) in
+      omega
+      (arith, h .small .productions, actions-few d (h .small), gotos-few d (h .small), h .count, bytes-split 3 cells, bytes-split (2 * d .p) (drop 5 cells), length-take 3 cells, length-take 2 (drop 3 cells), length-take (2 * d .p) (drop 5 cells), length-drop (2 * d .p) (drop 5 cells), length-drop 5 cells)
+
+-- ---- at most so many bytes
+pub book-bytes-most : (bytes : List ℕ) (d : Sizes) → Bytes bytes → checked (ofBytes bytes) ≡ Valid d → length bytes ≤ 16647
+book-bytes-most bytes d b e =
+    let (cells, next, is, sizes) = checked-valid (ofBytes bytes) d e in
+    let (same, valid) = written-read bytes cells next b is in
+    rw same at (cells-bytes (valid-holds cells (sizesOf cells) (ap checked valid)))
+
+-- ---- cells that fit are accepted
+cells-found : (cells : List ℕ) (fault : ℕ → ℕ → ℕ) (k i at : ℕ) → at + k ≤ length cells → ((j : ℕ) → j < k → fault (i + j) (getD cells (at + j) 0) ≡ 0)
+    → row (cellAt cells) fault k i at ≡ read (take k (drop at cells)) (at + k)
+unfolding row cellAt
+cells-found cells fault zero i at h clean = rw add-zero
+cells-found cells fault (suc k) i at h clean =
+    let first : fault i (getD cells at 0) ≡ 0 = rw (add-zero i, add-zero at) at (clean 0 (omega arith)) in
+    let later : (j : ℕ) → j < k → fault (suc i + j) (getD cells (at + 1 + j) 0) ≡ 0 = λ j l.
+    (let p : suc i + j ≡ i + suc j = omega arith in let q : at + 1 + j ≡ at + suc j = omega arith in rw (p, q) (clean (suc j) (omega arith))) in
+    let next : at + 1 + k ≡ at + suc k = omega arith in
+    let onward = rw next at (cells-found cells fault k (suc i) (at + 1) (omega arith) later) in
+    rw (lt-ltb at (length cells) (omega arith), eq-eqb (fault i (getD cells at 0)) 0 first, onward, drop-cons cells at 0 (omega arith), add-one)
+
+pub accepted : (d : Sizes) (cells : List ℕ) → d ≡ sizesOf cells → length cells ≡ 5 + bodyLength d → ((j : ℕ) → j < 5 → headFault j (getD cells j 0) ≡ 0)
+    → ((i : ℕ) → i < bodyLength d → fits d i (getD cells (5 + i) 0) ≡ true) → ofCells cells ≡ read cells (length cells)
+unfolding ofCells bookIn bodyFault
+accepted d cells sizes count head body =
+    let first = cells-found cells headFault 5 0 0 (omega arith) (λ j l. rw (zero-add j) (head j l)) in
+    let second = cells-found cells (bodyFault d) (bodyLength d) 0 5 (omega arith) (λ i l. rw (zero-add i, body i l)) in
+    let rest : take (bodyLength d) (drop 5 cells) ≡ drop 5 cells = take-all (bodyLength d) (drop 5 cells) (rw length-drop (omega arith)) in
+    rw (first, sizes-take, ← sizes, second, count, le-ltb (5 + bodyLength d) (5 + bodyLength d) (omega arith), rest, take-append-drop)
+
+-- ---- several times one number
+bytes-replicate : (n v : ℕ) → length (bytesOf (replicate n v)) ≡ n * length (written v)
+bytes-replicate zero v = sym (zero-mul (length (written v)))
+bytes-replicate (suc n) v = rw (length-append, suc-mul) (omega (arith, bytes-replicate n v))
+
+after : (xs ys : List ℕ) (n i : ℕ) → length xs ≡ n → n ≤ i → getD (xs ++ ys) i 0 ≡ getD ys (i - n) 0
+after xs ys n i e h =
+    let k : i ≡ length xs + (i - n) = omega arith in
+    ap (λ (j : ℕ). getD (xs ++ ys) j 0) k ∙ getD-append-add xs ys (i - n) 0
+
+module _ (a b c x y z : ℕ) where
+  abbrev parts : List ℕ
+  parts = replicate a x ++ (replicate b y ++ replicate c z)
+
+  part-first : (i : ℕ) → i < a → getD parts i 0 ≡ x
+  part-first i h = List·getD-append (replicate a x) _ 0 i (rw length-replicate h) ∙ getD-replicate a i x 0 h
+
+  part-second : (i : ℕ) → a ≤ i → i < a + b → getD parts i 0 ≡ y
+  part-second i h l =
+      after (replicate a x) _ a i (length-replicate a x) h ∙ List·getD-append (replicate b y) _ 0 (i - a) (rw length-replicate (omega arith))
+      ∙ getD-replicate b (i - a) y 0 (omega arith)
+
+  part-third : (i : ℕ) → a + b ≤ i → i < a + b + c → getD parts i 0 ≡ z
+  part-third i h l =
+      after (replicate a x) _ a i (length-replicate a x) (omega arith) ∙ after (replicate b y) _ b (i - a) (length-replicate b y) (omega arith)
+      ∙ getD-replicate c (i - a - b) z 0 (omega arith)
+
+-- ---- a book of given sizes in which each number is as wide as it can be: the productions are the last nonterminal's, each action
+-- reduces by the last of them, and each goto leads to the last state
+abbrev inParts : Sizes → List ℕ
+inParts d = parts (2 * d .p) (d .s * d .t) (d .s * d .n) (d .n - 1) (1 + 2 * d .p) (d .s)
+
+unfoldable pub full : Sizes → List ℕ
+full d = (1 ∷ d .t ∷ d .n ∷ d .s ∷ d .p ∷ []) ++ inParts d
+
+module _ (d : Sizes) where
+  full-length : length (full d) ≡ 5 + bodyLength d
+  unfolding full
+  full-length = simp (length-append, length-replicate) (omega arith)
+
+  full-sizes : d ≡ sizesOf (full d)
+  unfolding full sizesOf
+  full-sizes = refl
+
+  full-bytes : length (bytesOf (full d))
+      ≡ length (bytesOf (1 ∷ d .t ∷ d .n ∷ d .s ∷ d .p ∷ []))
+      + (2 * d .p * length (written (d .n - 1)) + (d .s * d .t * length (written (1 + 2 * d .p)) + d .s * d .n * length (written (d .s))))
+  unfolding full
+  full-bytes = simp (bytes-append, length-append, bytes-replicate) (omega arith)
+
+  module _ (small : Small d) (some : 1 ≤ d .n) (one : 1 ≤ d .p) where
+    full-head : (j : ℕ) → j < 5 → headFault j (getD (full d) j 0) ≡ 0
+    unfolding full headFault
+    full-head zero l = refl
+    full-head (suc zero) l = rw (le-leb 1 (d .t) (small .some-terminal), le-leb (d .t) 32 (small .terminals))
+    full-head (suc (suc zero)) l = rw (le-leb 0 (d .n) (omega arith), le-leb (d .n) 32 (small .nonterminals))
+    full-head (suc (suc (suc zero))) l = rw (le-leb 1 (d .s) (small .some-state), le-leb (d .s) 128 (small .states))
+    full-head (suc (suc (suc (suc zero)))) l = rw (le-leb 0 (d .p) (omega arith), le-leb (d .p) 128 (small .productions))
+    full-head (suc (suc (suc (suc (suc j))))) l = absurd (omega arith)
+
+    full-fits : (i : ℕ) → i < bodyLength d → fits d i (getD (full d) (5 + i) 0) ≡ true
+    unfolding full fits allowed
+    full-fits i l = rw (getD-append-add (1 ∷ d .t ∷ d .n ∷ d .s ∷ d .p ∷ []) (inParts d) i 0) (by-part (decLt i (2 * d .p)) (decLt i (2 * d .p + d .s * d .t)))
+      where
+        by-turn : i < 2 * d .p → Dec (i % 2 ≡ 0) → fits d i (d .n - 1) ≡ true
+        by-turn r (yes z) = rw (lt-ltb i (2 * d .p) r, eq-eqb (i % 2) 0 z, lt-ltb (d .n - 1) (d .n) (omega arith))
+        by-turn r (no z) = rw (lt-ltb i (2 * d .p) r, ne-eqb (i % 2) 0 z, le-leb (d .n - 1) 32 (omega (arith, small .nonterminals)))
+
+        reduction : actionOf (1 + 2 * d .p) ≡ Reduce (d .p - 1)
+        reduction =
+            let half : (2 * d .p - 1) / 2 ≡ d .p - 1 = omega arith in
+            rw half at (action-odd (1 + 2 * d .p) (2 * d .p - 1) (omega arith) (omega arith))
+
+        by-part : Dec (i < 2 * d .p) → Dec (i < 2 * d .p + d .s * d .t) → fits d i (getD (inParts d) i 0) ≡ true
+        by-part (yes r) v = rw (part-first _ _ _ _ _ _ i r) (by-turn r (ℕ-discrete (i % 2) 0))
+        by-part (no r) (yes v) =
+            rw (part-second (2 * d .p) (d .s * d .t) (d .s * d .n) _ _ _ i (omega arith) v, le-ltb i (2 * d .p) (omega arith), lt-ltb i (2 * d .p + d .s * d .t) v, reduction, lt-ltb (d .p - 1) (d .p) (omega arith))
+        by-part (no r) (no v) =
+            rw (part-third (2 * d .p) (d .s * d .t) (d .s * d .n) _ _ _ i (omega arith) l, le-ltb i (2 * d .p) (omega arith), le-ltb i (2 * d .p + d .s * d .t) (omega arith), le-leb (d .s) (d .s) (omega arith))
+
+    full-accepted : ofCells (full d) ≡ read (full d) (length (full d))
+    full-accepted = accepted d (full d) full-sizes full-length full-head full-fits
+
+-- ---- what a book is written as are bytes
+below-append : (m : ℕ) (a b : List ℕ) → ((i : ℕ) → getD a i 0 < m) → ((i : ℕ) → getD b i 0 < m) → (i : ℕ) → getD (a ++ b) i 0 < m
+below-append m [] b f g i = g i
+below-append m (x ∷ a) b f g zero = f 0
+below-append m (x ∷ a) b f g (suc i) = below-append m a b (λ j. f (suc j)) g i
+
+below-cons : (m x : ℕ) (a : List ℕ) → x < m → ((i : ℕ) → getD a i 0 < m) → (i : ℕ) → getD (x ∷ a) i 0 < m
+below-cons m x a h f zero = h
+below-cons m x a h f (suc i) = f i
+
+written-bytes : (n : ℕ) → n < 16384 → Bytes (written n)
+written-bytes n h = go (decLt n 128)
+  where
+    go : Dec (n < 128) → Bytes (written n)
+    go (yes l) = rw (written-one n l) (below-cons 256 n [] (omega arith) (λ i. omega arith))
+    go (no l) = rw (written-two n (omega arith) h) (below-cons 256 (n % 128 + 128) (n / 128 ∷ []) (omega arith) (below-cons 256 (n / 128) [] (omega arith) (λ i. omega arith)))
+
+bytes-bytes : (vs : List ℕ) → ((i : ℕ) → getD vs i 0 < 16384) → Bytes (bytesOf vs)
+bytes-bytes [] h = λ i. omega arith
+bytes-bytes (v ∷ vs) h = below-append 256 (written v) (bytesOf vs) (written-bytes v (h 0)) (bytes-bytes vs (λ i. h (suc i)))
+
+-- ---- the longest book
+abbrev pub largest : Sizes
+largest = record { t = 32; n = 32; s = 128; p = 128 }
+
+unfoldable pub longest : List ℕ
+longest = full largest
+
+longest-accepted : ofCells longest ≡ read longest (length longest)
+unfolding longest
+longest-accepted =
+    full-accepted largest
+    (record { some-terminal = omega arith; terminals = omega arith; nonterminals = omega arith; some-state = omega arith; states = omega arith; productions = omega arith })
+    (omega arith)
+    (omega arith)
+
+longest-sizes : sizesOf longest ≡ largest
+unfolding longest
+longest-sizes = sym (full-sizes largest)
+
+pub longest-cells : (checked (ofCells longest) ≡ Valid largest) × (length longest ≡ 8453)
+unfolding longest
+longest-cells = (rw (longest-accepted, longest-sizes), full-length largest)
+
+pub longest-bytes : Bytes (bytesOf longest) × (checked (ofBytes (bytesOf longest)) ≡ Valid largest) × (length (bytesOf longest) ≡ 16647)
+unfolding longest written
+longest-bytes =
+    let wide = cell-wide (valid-holds longest largest (longest-cells .0)) in
+    (bytes-bytes longest wide, rw (read-written longest (λ i. omega (arith, wide i)) longest-accepted, longest-sizes), full-bytes largest)
