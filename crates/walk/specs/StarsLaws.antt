@@ -13,10 +13,14 @@ use Rattle.number.specs.Number.{numberAt, first, second, third, value, refusal}
 use Rattle.number.specs.declared.Number.{Number}
 use Rattle.number.specs.declared.Number.the-variants.{Value, Refused}
 use Rattle.book.specs.Action.{actionOf}
+use Rattle.book.specs.Book.{bookIn, row, cellAt, ofBytes, ofCells, checked}
+use Rattle.book.specs.Range.{headFault, bodyFault, fits, allowed}
 use Rattle.book.specs.Tables.{Tables, sizesOf, tablesOf}
 use Rattle.book.specs.TablesLaws.{act-range}
 use Rattle.book.specs.declared.Action.{Action}
 use Rattle.book.specs.declared.Action.the-variants.{Error, Accept, Shift, Reduce}
+use Rattle.book.specs.declared.Checked.the-variants.{Valid}
+use Rattle.book.specs.declared.Sizes.{Sizes}
 use Rattle.machine.specs.Machine.{Move, accepts, fails, breaks, shifts, reduces, next, shift, reduce, Steps, done, then, Terminals, none, more, Reaches}
 use Rattle.machine.specs.MachineLaws.{clash}
 use Rattle.walk.specs.Walk.{Walk, here, shifted, crossed}
@@ -312,3 +316,15 @@ all-right (l ∷ ls) e = let (i, j) = both (right? l) (all-right? ls) e in (righ
 pub stars-hold : All stars
 unfolding stars bracket double all-right? right? same? numberAt first second third sentence? unreached? unreduced? unshifted? tablesOf sizesOf actionOf next missed hits misses follow after meets terminals? upto every later shifts-to reduces?
 stars-hold = all-right stars refl
+
+-- ---- the two small books are books, in cells and, as each number is below 128, in bytes
+abbrev pub Accepted : List ℕ → Sizes → Type 0
+Accepted book d = (checked (ofCells book) ≡ Valid d) × (checked (ofBytes book) ≡ Valid d)
+
+pub bracket-accepted : Accepted bracket (record { t = 4; n = 1; s = 6; p = 2 }) × (length bracket ≡ 39)
+unfolding bracket ofCells ofBytes bookIn row cellAt numberAt first headFault bodyFault fits allowed actionOf sizesOf
+bracket-accepted = ((refl, refl), refl)
+
+pub double-accepted : Accepted double (record { t = 3; n = 2; s = 8; p = 4 }) × (length double ≡ 53)
+unfolding double ofCells ofBytes bookIn row cellAt numberAt first headFault bodyFault fits allowed actionOf sizesOf
+double-accepted = ((refl, refl), refl)
