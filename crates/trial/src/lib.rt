@@ -3,6 +3,7 @@ mod parts;
 mod words;
 
 pub use parts::part_at;
+pub use words::bytes;
 pub use words::label;
 pub use words::line;
 pub use words::refusal;

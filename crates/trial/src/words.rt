@@ -29,3 +29,11 @@ pub fn refusal(r: Refusal) {
     byte(b" refused ", r.number);
     label(b" place ", r.place);
 }
+
+pub fn bytes(s: &[u8]) {
+    let mut i: usize = 0;
+    while i < s.len() {
+        byte(b" ", s[i]);
+        i += 1;
+    }
+}
