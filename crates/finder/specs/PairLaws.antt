@@ -17,6 +17,8 @@ use Rattle.walk.specs.CostLaws.{exact-map}
 use Rattle.walk.specs.Answer.{Long, Answer, Unreached as Never, Sentence as Word}
 use Rattle.walk.specs.ShortestLaws.{cost-length}
 use Rattle.walk.specs.AnswerLaws.{exact-unreached}
+use Rattle.walk.specs.ClaimsLaws.{goal-matches}
+use Rattle.walk.specs.MatchesLaws.{matches-least}
 use Rattle.layers.specs.Crossing.{claimIn}
 use Rattle.layers.specs.CrossingLaws.{terminals-are, states-are}
 use Rattle.crossings.specs.Crossings.{CrossingTable}
@@ -27,7 +29,6 @@ use Rattle.walk.specs.Walk.{Walk, first}
 use Rattle.walk.specs.WalkLaws.{reaches-walk, walk-reaches, walk-terminal}
 use Rattle.finder.specs.ChoosingLaws.{OnePair, ToPair}
 use Rattle.finder.specs.Choosing.{Chose}
-use Rattle.finder.specs.GoalLaws.{exact-least}
 use Rattle.finder.specs.Finder.{Answered}
 use Rattle.finder.specs.declared.Found.the-variants.{Unreached, Long as Far′, Sentence}
 use Rattle.finder.specs.Pair.{Minimum}
@@ -88,7 +89,7 @@ module _ {d : Sizes} {cells goals dist : List ℕ} {s z : ℕ} (h : Holds d cell
 
   pub to-pair : {table : List ℕ} → CrossingTable plain d cells table → ToPair plain (tablesOf cells) (claimIn d table) s z (entryIn dist)
   to-pair t q a hq ha =
-      exact-least {Goal = OnePair s z} (in-range h) (table-closed h t) (table-witnessed h t) (λ s′ z′ (e, f). rw (f, terminals-are h) hz)
+      matches-least (goal-matches (in-range h) (table-closed h t) (table-witnessed h t) {Goal = OnePair s z} (λ s′ z′ (e, f). rw (f, terminals-are h) hz))
       (pair-exact q a (rw (states-are h) at hq) (rw (terminals-are h) at ha))
 
 -- ---- the answers
@@ -109,5 +110,5 @@ answered-unreached {n} e h = record {
 pub answered-long : {B : Tables} {s z n : ℕ} {buffer : List ℕ} → Exact plain (λ w. Reaches B w z s) n → long plain ≤ n → n < unreached plain → Answered B s z buffer Far′ buffer
 answered-long e g h = record { outcome = Long; right = answer-long e g h; told = refl; front = refl }
 
-pub answered-sentence : {B : Tables} {s z n : ℕ} {buffer left : List ℕ} → Chose plain (λ a. a) B s z n buffer left → Answered B s z buffer (Sentence n) left
+pub answered-sentence : {B : Tables} {s z n : ℕ} {buffer left : List ℕ} → Chose plain (λ a. a) (λ w. Reaches B w z s) n buffer left → Answered B s z buffer (Sentence n) left
 answered-sentence c = record { outcome = Word (c .word); right = c .answer; told = rw (sym (cost-length (c .word)) ∙ c .paid); front = c .front }

@@ -44,6 +44,10 @@ pub data ClaimedDescends (σ : Scale) (B : Tables) (claim : Claims) (End : ℕ �
 abbrev pub ClaimedGets : Scale → Tables → Claims → ℕ → ℕ → List ℕ → ℕ → ℕ → Type 0
 ClaimedGets σ B claim s z = ClaimedDescends σ B claim (λ q st a v n. Claimed σ B claim q a v z n s)
 
+-- .. one of a set of goals (s, z)
+abbrev pub ClaimedGetsTo : Scale → Tables → Claims → (ℕ → ℕ → Type 0) → List ℕ → ℕ → ℕ → Type 0
+ClaimedGetsTo σ B claim Goal = ClaimedDescends σ B claim (λ q st a v n. (s z : ℕ) × Goal s z × Claimed σ B claim q a v z n s)
+
 -- no claim is more than what the claims make of a production for it
 pub record Closed (σ : Scale) (B : Tables) (claim : Claims) : Type 0 where
   pub bound : {q a v z p q₂ g : ℕ} → Claimed σ B claim q a v z (B .len p) q₂ → B .act q₂ z ≡ Reduce p → B .goto q (B .lhs p) ≡ suc g
@@ -67,6 +71,11 @@ pub record LeastWhere (σ : Scale) (C P : ℕ → Type 0) (v : ℕ) : Type 0 whe
 pub record Matches (σ : Scale) (K : ℕ → Type 0) (P : List ℕ → Type 0) : Type 0 where
   pub below : (w : List ℕ) → P w → (v : ℕ) × K v × (v ≤ cap σ (cost σ w))
   pub above : (v : ℕ) → K v → Attained σ P v
+
+-- up to the bound r the ends J, as a table has them, serve for the ends K: none of K is less than all of J, and what J has is in K
+pub record Serves (B : Tables) (r : ℕ) (J K : ℕ → List ℕ → ℕ → ℕ → ℕ → Type 0) : Type 0 where
+  pub lower : {q a v n : ℕ} {st : List ℕ} → q < B .states → a < B .terminals → v ≤ r → K q st a v n → (x m : ℕ) × J q st a x m × (x ≤ v)
+  pub within : {q a v n : ℕ} {st : List ℕ} → q < B .states → a < B .terminals → v ≤ r → J q st a v n → (m : ℕ) × K q st a v m
 
 -- a claimed walk from the start to state s with z next, of any number of transitions
 abbrev pub Arrival : Scale → Tables → Claims → ℕ → ℕ → ℕ → Type 0

@@ -1,20 +1,20 @@
 -- Laws of claims: closed claims are at most the true costs, closed and witnessed claims are exact, and so is what is least over them. Assumes nothing.
 use mathlib.Core.List.{List, [], _∷_}
-use mathlib.Core.Logic.{_⊎_, inl, inr, ⊎-elim, ⊎-map}
+use mathlib.Core.Logic.{_⊎_, inl, inr, ⊎-elim, ⊎-map, _↔_}
 use mathlib.Core.Path.{_≡_, refl}
 use Prim.Native.Nat.{ℕ, suc, _+_, _≤_, _<_}
-use native.Mathlib.Nat.{le-trans, add-zero, add-suc}
+use native.Mathlib.Nat.{le-trans, le-refl, add-zero, add-suc}
 use native.Mathlib.Omega.{arith}
 use Rattle.book.specs.Tables.{Tables}
 use Rattle.book.specs.TablesLaws.{InRange}
 use Rattle.book.specs.declared.Action.the-variants.{Shift, Reduce}
 use Rattle.machine.specs.Machine.{Reaches}
-use Rattle.walk.specs.Walk.{Walk, here, shifted, crossed, first, Descends, arrives, pops, Gets}
+use Rattle.walk.specs.Walk.{Walk, here, shifted, crossed, first, Descends, arrives, pops, Gets, GetsTo}
 use Rattle.walk.specs.WalkLaws.{Opens, empties, walk-begins, walk-terminal, descends-terminal, reaches-walk, walk-reaches}
 use Rattle.walk.specs.Scale.{Scale, unreached, cap, shiftCost}
 use Rattle.walk.specs.Cost.{cost, plus, Attained, Exact}
-use Rattle.walk.specs.CostLaws.{plus-bounded, plus-zero, zero-plus, plus-comm, plus-assoc, plus-cost-le, attained-map, attained-plus}
-use Rattle.walk.specs.Claims.{Crosses, Claims, Claimed, none, shifting, crossing, Closed, Witnessed, Least, Arrival, Onward, ClaimedDescends, arriving, popping, ClaimedGets, Matches}
+use Rattle.walk.specs.CostLaws.{plus-mono, plus-right-within, plus-bounded, plus-zero, zero-plus, plus-comm, plus-assoc, plus-cost-le, attained-map, attained-plus}
+use Rattle.walk.specs.Claims.{Crosses, Claims, Claimed, none, shifting, crossing, Closed, Witnessed, Least, Arrival, Onward, ClaimedDescends, arriving, popping, ClaimedGets, ClaimedGetsTo, Matches, Serves}
 use Rattle.walk.specs.MatchesLaws.{matches-exact}
 
 -- what a transition, and a reduction, make of the cost of some walk is the cost of some walk, and of some crossing
@@ -159,6 +159,33 @@ module _ {σ : Scale} {B : Tables} {claim : Claims} where
   pub witnessed-gets-above : {s z a v : ℕ} {st : List ℕ} → Witnessed σ B claim → ClaimedGets σ B claim s z st a v → Attained σ (Gets B s z st a) v
   witnessed-gets-above k c = witnessed-descends-above k (λ q st a v n c. witnessed-above k c) c
 
+-- where the ends of a table serve up to a bound, so do the descents
+module _ {σ : Scale} {B : Tables} {claim : Claims} {r : ℕ} {J K : ℕ → List ℕ → ℕ → ℕ → ℕ → Type 0} (i : InRange B) (near : r < unreached σ) (t : Serves B r J K) where
+  serves-lower : {q a v : ℕ} {st : List ℕ} → q < B .states → a < B .terminals → v ≤ r → ClaimedDescends σ B claim K (q ∷ st) a v
+      → (x : ℕ) × ClaimedDescends σ B claim J (q ∷ st) a x × (x ≤ v)
+  serves-lower hq ha h (arriving x) = let (y, m, j, l) = t .lower hq ha h x in (y, arriving j, l)
+  serves-lower hq ha h (popping {v} {x} {q₂} {g} k c e l d j b) =
+      let (y, z, m) = serves-lower (i .gotos q₂ _ g j .2) (claimed-next c) (plus-right-within σ v x r near h) b in
+      (plus σ v y, popping k c e l d j z, plus-mono σ (le-refl v) m)
+
+  serves-within : {q a v : ℕ} {st : List ℕ} → q < B .states → a < B .terminals → v ≤ r → ClaimedDescends σ B claim J (q ∷ st) a v → ClaimedDescends σ B claim K (q ∷ st) a v
+  serves-within hq ha h (arriving x) = let (m, y) = t .within hq ha h x in arriving y
+  serves-within hq ha h (popping {v} {x} {q₂} {g} k c e l d j b) =
+      popping k c e l d j (serves-within (i .gotos q₂ _ g j .2) (claimed-next c) (plus-right-within σ v x r near h) b)
+
+  pub serves-iff : {q a : ℕ} {st : List ℕ} → q < B .states → a < B .terminals
+      → ((v : ℕ) × (v ≤ r) × ClaimedDescends σ B claim J (q ∷ st) a v) ↔ ((v : ℕ) × (v ≤ r) × ClaimedDescends σ B claim K (q ∷ st) a v)
+  serves-iff hq ha = (λ (v, h, x). (v, h, serves-within hq ha h x), λ (v, h, x). let (y, z, m) = serves-lower hq ha h x in (y, le-trans m h, z))
+
+-- so a table of the least costs to go to the goals serves up to every bound below unreached
+pub least-serves : {σ : Scale} {B : Tables} {claim : Claims} {G : ℕ → ℕ → ℕ} {Goal : ℕ → ℕ → Type 0} {r : ℕ} → r < unreached σ
+    → ((q a : ℕ) → q < B .states → a < B .terminals → Least σ (Onward σ B claim Goal q a) (G q a))
+    → Serves B r (λ q st a v n. v ≡ G q a) (λ q st a v n. (s z : ℕ) × Goal s z × Claimed σ B claim q a v z n s)
+least-serves {σ} {B} {claim} {G} {Goal} {r} near least = record {
+  lower = λ {q} {a} {v} {n} hq ha h (s, z, j, c). (G q a, 0, refl, least q a hq ha .below v (n, s, z, j, c));
+  within = λ {q} {a} {v} hq ha h e. ⊎-elim (λ u. absurd (omega (arith, u))) (λ (n, s, z, j, c). (n, (s, z, j, rw (← e) at c))) (least q a hq ha .attained);
+}
+
 module _ {σ : Scale} {B : Tables} {claim : Claims} (i : InRange B) (c : Closed σ B claim) where
   -- no crossing costs less than its claim
   pub claim-least : {q X a z : ℕ} {w : List ℕ} → z < B .terminals → Crosses B q X a z w → claim q X a z ≤ cap σ (cost σ w)
@@ -214,3 +241,11 @@ module _ {σ : Scale} {B : Tables} {claim : Claims} (i : InRange B) (c : Closed 
 
     pub gets-exact : {s z a d : ℕ} {st : List ℕ} → z < B .terminals → Least σ (ClaimedGets σ B claim s z st a) d → Exact σ (Gets B s z st a) d
     gets-exact h l = matches-exact (gets-matches h) l
+
+    pub gets-to-matches : {Goal : ℕ → ℕ → Type 0} {a : ℕ} {st : List ℕ} → ((s z : ℕ) → Goal s z → z < B .terminals) → Matches σ (ClaimedGetsTo σ B claim Goal st a) (GetsTo B Goal st a)
+    gets-to-matches t = descends-matches
+        (λ q st a w n (s, z, h, r). walk-terminal i (t s z h) r)
+        (λ q st a n. record {
+          below = λ w (s, z, h, r). let (v, x, j) = closed-below i c (t s z h) r in (v, (s, z, h, x), j);
+          above = λ v (s, z, h, r). attained-map σ (λ w x. (s, z, h, x)) (witnessed-above k r);
+        })

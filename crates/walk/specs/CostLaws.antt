@@ -98,6 +98,14 @@ module _ (σ : Scale) where
       go (near a b e) = omega arith
       go (far a e) = omega arith
 
+  -- where a sum is within a bound below unreached, its second part is
+  pub plus-right-within : (x y r : ℕ) → r < unreached σ → plus σ x y ≤ r → y ≤ r
+  plus-right-within x y r g h = go (sum x y)
+    where
+      go : Sum σ x y (plus σ x y) → y ≤ r
+      go (near a b e) = omega arith
+      go (far a e) = omega arith
+
   -- the capped sum of capped costs is the capped cost of the sum
   pub plus-cap : (m n : ℕ) → plus σ (cap σ m) (cap σ n) ≡ cap σ (m + n)
   plus-cap m n = omega (arith, plus-near (cap σ m) (cap σ n) (omega arith) (omega arith))

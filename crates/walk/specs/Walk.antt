@@ -38,6 +38,10 @@ pub data Descends (B : Tables) (End : ℕ → List ℕ → ℕ → List ℕ → 
 abbrev pub Gets : Tables → ℕ → ℕ → List ℕ → ℕ → List ℕ → Type 0
 Gets B s z = Descends B (λ q st a w n. Walk B q a w z n s)
 
--- .. and then the stack is s ∷ below
+-- .. one of a set of goals (s, z)
+abbrev pub GetsTo : Tables → (ℕ → ℕ → Type 0) → List ℕ → ℕ → List ℕ → Type 0
+GetsTo B Goal = Descends B (λ q st a w n. (s z : ℕ) × Goal s z × Walk B q a w z n s)
+
+-- .. s itself, and then the stack is s ∷ below
 abbrev pub Lands : Tables → ℕ → ℕ → List ℕ → List ℕ → ℕ → List ℕ → Type 0
 Lands B s z below = Descends B (λ q st a w n. Chain B q st a w z n s below)
