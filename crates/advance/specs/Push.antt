@@ -6,7 +6,7 @@ use lib.ListN.{length, getD, take, drop}
 use Rattle.book.specs.Tables.{Tables}
 use Rattle.machine.specs.Machine.{Step, Steps}
 use Rattle.walk.specs.Claims.{Claims}
-use Rattle.advance.specs.Nearest.{far, Leads}
+use Rattle.advance.specs.Nearest.{far, LeadsTo}
 
 -- the stack, top first, that the first n cells hold, bottom first
 abbrev pub stacked : List ℕ → ℕ → List ℕ
@@ -19,15 +19,15 @@ pub record Shifted (B : Tables) (st : List ℕ) (x : ℕ) (st′ : List ℕ) : T
   pub shift : (v : List ℕ) → Step B before (x ∷ v) st′ v
 
 -- g is the next state on the way from q: by the goto under the lowest nonterminal that leads one nearer
-pub record Next (B : Tables) (claim : Claims) (x : ℕ) (to : List ℕ) (q g : ℕ) : Type 0 where
+pub record NextState (B : Tables) (claim : Claims) (x : ℕ) (to : List ℕ) (q g : ℕ) : Type 0 where
   pub symbol : ℕ
   pub transition : B .goto q symbol ≡ suc g
   pub claimed : claim q symbol x x ≡ 0
   pub nearer : getD to q 0 ≡ getD to g 0 + 1
-  pub lowest : (X : ℕ) → X < symbol → ¬ Leads B claim x to q (getD to g 0) X
+  pub lowest : (X : ℕ) → X < symbol → ¬ LeadsTo B claim x to q (getD to g 0) X
 
 -- the cells from depth on, up to n, hold the states pushed so far, g the last; the machine has done so without consuming x
-pub record Pushed (B : Tables) (x : ℕ) (to : List ℕ) (depth : ℕ) (old : List ℕ) (n g : ℕ) (new : List ℕ) : Type 0 where
+pub record StatesPushed (B : Tables) (x : ℕ) (to : List ℕ) (depth : ℕ) (old : List ℕ) (n g : ℕ) (new : List ℕ) : Type 0 where
   pub size : length new ≡ length old
   pub some : 1 ≤ n
   pub least : depth ≤ n

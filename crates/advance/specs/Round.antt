@@ -8,7 +8,7 @@ use lib.Dec.{ltb}
 use lib.ListN.{length, getD, set}
 use Rattle.book.specs.Tables.{Tables}
 use Rattle.walk.specs.Claims.{Claims}
-use Rattle.advance.specs.Nearest.{far, Shifts, Leads, Sound, Nearest}
+use Rattle.advance.specs.Nearest.{far, Shifts, LeadsTo, SoundDistances, Nearest}
 
 -- how many entries are not the mark
 unfoldable pub numbered : List ℕ → ℕ
@@ -28,16 +28,16 @@ pub record Started (B : Tables) (x i : ℕ) (to : List ℕ) : Type 0 where
 
 -- the turn of state q in round m: it gets m + 1 if it has none yet and a goto leads to a state at distance m; how many got one
 pub data Turn (B : Tables) (claim : Claims) (x m q : ℕ) (old : List ℕ) : ℕ → List ℕ → Type 0 where
-  kept : (getD old q 0 ≡ far → (X : ℕ) → ¬ Leads B claim x old q m X) → Turn B claim x m q old 0 old
-  given : {X : ℕ} → getD old q 0 ≡ far → Leads B claim x old q m X → Turn B claim x m q old 1 (set old q (m + 1))
+  kept : (getD old q 0 ≡ far → (X : ℕ) → ¬ LeadsTo B claim x old q m X) → Turn B claim x m q old 0 old
+  given : {X : ℕ} → getD old q 0 ≡ far → LeadsTo B claim x old q m X → Turn B claim x m q old 1 (set old q (m + 1))
 
 -- the rounds below m are done, and round m for the states below i, of which r got a distance. Each round but the last gives
 -- one to some state, so more than m have one: this bounds m
 pub record Round (B : Tables) (claim : Claims) (x m i r : ℕ) (to : List ℕ) : Type 0 where
-  pub sound : Sound B claim x to
+  pub sound : SoundDistances B claim x to
   pub most : (q : ℕ) → (getD to q 0 ≤ suc m) ⊎ (getD to q 0 ≡ far)
   pub idle : r ≡ 0 → (q : ℕ) → (getD to q 0 ≤ m) ⊎ (getD to q 0 ≡ far)
-  pub complete : (q k X : ℕ) → Leads B claim x to q k X → (k < m) ⊎ ((k ≡ m) × (q < i)) → getD to q 0 ≤ suc k
+  pub complete : (q k X : ℕ) → LeadsTo B claim x to q k X → (k < m) ⊎ ((k ≡ m) × (q < i)) → getD to q 0 ≤ suc k
   pub count : (q : ℕ) → q < B .states → getD to q 0 ≡ m → m + r < numbered to
   pub grown : 1 ≤ r → m + r < numbered to
 

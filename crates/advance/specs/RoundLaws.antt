@@ -16,7 +16,7 @@ use Rattle.book.specs.TablesLaws.{InRange, Holds, in-range}
 use Rattle.book.specs.declared.Sizes.{Sizes}
 use Rattle.walk.specs.Claims.{Claims}
 use Rattle.layers.specs.CrossingLaws.{states-are}
-use Rattle.advance.specs.Nearest.{far, Shifts, Leads, Nearest}
+use Rattle.advance.specs.Nearest.{far, Shifts, LeadsTo, Nearest}
 use Rattle.advance.specs.Round.{numbered, First, shifting, other, Started, Turn, kept, given, Round, Rounds}
 
 -- ---- the count of the numbered
@@ -75,7 +75,7 @@ started-more {B} {x} {i} {v} {to} h s f = record {
 
 -- ---- a store where the mark stood
 module _ {B : Tables} {claim : Claims} {x : ℕ} (to : List ℕ) (i v : ℕ) where
-  leads-kept : {q k X : ℕ} → getD to i 0 ≡ far → k < far → Leads B claim x to q k X → Leads B claim x (set to i v) q k X
+  leads-kept : {q k X : ℕ} → getD to i 0 ≡ far → k < far → LeadsTo B claim x to q k X → LeadsTo B claim x (set to i v) q k X
   leads-kept h l a = record {
     target = a .target;
     transition = a .transition;
@@ -83,7 +83,7 @@ module _ {B : Tables} {claim : Claims} {x : ℕ} (to : List ℕ) (i v : ℕ) whe
     distance = getD-set-other to i (a .target) v 0 (λ e. absurd (omega (arith, ap (λ (j : ℕ). getD to j 0) e))) ∙ a .distance;
   }
 
-  leads-before : {q k X : ℕ} → i < length to → k < v → Leads B claim x (set to i v) q k X → Leads B claim x to q k X
+  leads-before : {q k X : ℕ} → i < length to → k < v → LeadsTo B claim x (set to i v) q k X → LeadsTo B claim x to q k X
   leads-before {q} {k} h l a = record {
     target = a .target;
     transition = a .transition;
@@ -130,7 +130,7 @@ module _ {B : Tables} {claim : Claims} {x : ℕ} (range : InRange B) (fits : B .
       bounded q = ⊎-elim (λ h. inl (omega arith)) inr (zeroes q)
 
   -- the turn of state i gave it nothing ..
-  round-kept : {m i r : ℕ} {to : List ℕ} → (getD to i 0 ≡ far → (X : ℕ) → ¬ Leads B claim x to i m X) → Round B claim x m i r to → Round B claim x m (i + 1) (r + 0) to
+  round-kept : {m i r : ℕ} {to : List ℕ} → (getD to i 0 ≡ far → (X : ℕ) → ¬ LeadsTo B claim x to i m X) → Round B claim x m i r to → Round B claim x m (i + 1) (r + 0) to
   round-kept {m} {i} {r} {to} f p = record {
     sound = p .sound;
     most = p .most;
@@ -140,12 +140,12 @@ module _ {B : Tables} {claim : Claims} {x : ℕ} (range : InRange B) (fits : B .
     grown = λ h. omega (arith, p .grown (omega arith));
   }
     where
-      here : (q k X : ℕ) → Leads B claim x to q k X → k ≡ m → q < i + 1 → Dec (q ≡ i) → getD to q 0 ≤ suc k
+      here : (q k X : ℕ) → LeadsTo B claim x to q k X → k ≡ m → q < i + 1 → Dec (q ≡ i) → getD to q 0 ≤ suc k
       here q k X a e h (no n) = p .complete q k X a (inr (e, omega arith))
       here q k X a e h (yes n) = ⊎-elim (λ y. omega arith) (λ y. absurd (f (rw n at y) X (rw (n, e) at a))) (p .most q)
 
   -- .. or a distance
-  round-given : {m i r X : ℕ} {to : List ℕ} → i < B .states → getD to i 0 ≡ far → Leads B claim x to i m X → Round B claim x m i r to
+  round-given : {m i r X : ℕ} {to : List ℕ} → i < B .states → getD to i 0 ≡ far → LeadsTo B claim x to i m X → Round B claim x m i r to
       → Round B claim x m (i + 1) (r + 1) (set to i (m + 1))
   round-given {m} {i} {r} {X} {to} hi mark a p = record {
     sound = record {
@@ -183,7 +183,7 @@ module _ {B : Tables} {claim : Claims} {x : ℕ} (range : InRange B) (fits : B .
       shifts q h (no n) = rw (away q n) (p .sound .shifts q h)
       shifts q h (yes e) = rw e (λ z. absurd (omega (arith, there)), λ y. absurd (omega (arith, p .sound .shifts i hi .1 y)))
 
-      onward : (q k : ℕ) → q < B .states → getD (set to i (m + 1)) q 0 ≡ suc k → suc k < far → Dec (q ≡ i) → (Y : ℕ) × Leads B claim x (set to i (m + 1)) q k Y
+      onward : (q k : ℕ) → q < B .states → getD (set to i (m + 1)) q 0 ≡ suc k → suc k < far → Dec (q ≡ i) → (Y : ℕ) × LeadsTo B claim x (set to i (m + 1)) q k Y
       onward q k h e l (no n) =
           let (Y, b) = p .sound .onward q k h (rw (away q n) at e) l in
           (Y, leads-kept to i (m + 1) mark (omega arith) b)
@@ -199,7 +199,7 @@ module _ {B : Tables} {claim : Claims} {x : ℕ} (range : InRange B) (fits : B .
       most q (no n) = rw (away q n) (p .most q)
       most q (yes e) = inl (rw e (omega (arith, there)))
 
-      complete : (q k Y : ℕ) → Leads B claim x (set to i (m + 1)) q k Y → (k < m) ⊎ ((k ≡ m) × (q < i + 1)) → Dec (q ≡ i) → getD (set to i (m + 1)) q 0 ≤ suc k
+      complete : (q k Y : ℕ) → LeadsTo B claim x (set to i (m + 1)) q k Y → (k < m) ⊎ ((k ≡ m) × (q < i + 1)) → Dec (q ≡ i) → getD (set to i (m + 1)) q 0 ≤ suc k
       complete q k Y b h (yes e) =
           rw e
           (⊎-elim
@@ -227,7 +227,7 @@ module _ {B : Tables} {claim : Claims} {x : ℕ} (range : InRange B) (fits : B .
     grown = λ h. absurd (omega arith);
   }
     where
-      complete : (q k X : ℕ) → Leads B claim x to q k X → Dec (k < m) → k < m + 1 → getD to q 0 ≤ suc k
+      complete : (q k X : ℕ) → LeadsTo B claim x to q k X → Dec (k < m) → k < m + 1 → getD to q 0 ≤ suc k
       complete q k X a (yes l) h = p .complete q k X a (inl l)
       complete q k X a (no l) h = p .complete q k X a (inr (omega arith, omega (arith, range .gotos q X (a .target) (a .transition) .0)))
 
@@ -239,7 +239,7 @@ module _ {B : Tables} {claim : Claims} {x : ℕ} (range : InRange B) (fits : B .
   round-last : {m i r : ℕ} {to : List ℕ} → r ≡ 0 → B .states ≤ i → Round B claim x m i r to → Nearest B claim x to
   round-last {m} {i} {to} nothing all p = record { sound = p .sound; complete = λ q k X a h. complete q k X a h (decLt k m) }
     where
-      complete : (q k X : ℕ) → Leads B claim x to q k X → k < far → Dec (k < m) → getD to q 0 ≤ suc k
+      complete : (q k X : ℕ) → LeadsTo B claim x to q k X → k < far → Dec (k < m) → getD to q 0 ≤ suc k
       complete q k X a h (yes l) = p .complete q k X a (inl l)
       complete q k X a h (no l) =
           let e : k ≡ m = ⊎-elim (λ y. omega (arith, a .distance)) (λ y. absurd (omega (arith, a .distance))) (p .idle nothing (a .target)) in

@@ -12,9 +12,9 @@ use Rattle.number.specs.declared.Refusal.{Refusal}
 use Rattle.book.specs.Range.{headFault, bodyFault, bodyLength}
 use Rattle.book.specs.Tables.{sizesOf}
 use Rattle.book.specs.declared.Checked.{Checked}
-use Rattle.book.specs.declared.Checked.the-variants.{Valid, Refused as Faulty}
+use Rattle.book.specs.declared.Checked.the-variants.{Valid, Refused as CheckedRefused}
 use Rattle.book.specs.declared.Written.{Written}
-use Rattle.book.specs.declared.Written.the-variants.{Count, Refused as Unwritten}
+use Rattle.book.specs.declared.Written.the-variants.{Count, Refused as WrittenRefused}
 
 -- 'In memory the book is its numbers in order, one 16-bit cell each': what stands at an index of the cells, with the next index,
 -- or '1 it stops before a due number is complete'
@@ -75,19 +75,19 @@ bytesOf (n ∷ cells) = written n ++ bytesOf cells
 -- what `check` answers
 abbrev pub checked : Row → Checked
 checked (read cells at) = Valid (sizesOf cells)
-checked (refused r) = Faulty r
+checked (refused r) = CheckedRefused r
 
 -- a result at the front of lent memory, the rest of which keeps its values. 'A writer and the cell reader need at least the length of
 -- their result': '12 an output too short', whose place is 0
 abbrev pub put : List ℕ → List ℕ → Written × List ℕ
 put out lent =
     cond (leb (length out) (length lent)) (Count (length out), over out lent)
-    (Unwritten (record { number = 12; place = 0 }), lent)
+    (WrittenRefused (record { number = 12; place = 0 }), lent)
 
 -- a refusal 'leaves all lent memory as it found it'
 abbrev pub delivered : (List ℕ → List ℕ) → Row → List ℕ → Written × List ℕ
 delivered f (read cells at) lent = put (f cells) lent
-delivered f (refused r) lent = (Unwritten r, lent)
+delivered f (refused r) lent = (WrittenRefused r, lent)
 
 -- what `read` answers and leaves in the lent cells
 unfoldable pub reading : List ℕ → List ℕ → Written × List ℕ

@@ -18,13 +18,13 @@ use Rattle.number.specs.declared.Number.{Number}
 use Rattle.number.specs.declared.Number.the-variants.{Value, Refused}
 use Rattle.number.specs.declared.Refusal.{Refusal}
 use Rattle.book.specs.Book.{cellAt, Row, read, refused, row, whole, bookIn, ofCells, checked, delivered}
-use Rattle.book.specs.Range.{lowest, highest, headNumber, headFault, bodyFault, bodyLength, Small}
+use Rattle.book.specs.Range.{headLowest, headHighest, headNumber, headFault, bodyFault, bodyLength, Small}
 use Rattle.book.specs.RowLaws.{ends, row-front, row-empty, row-length, row-clean, values, values-row, values-all}
 use Rattle.book.specs.Tables.{sizesOf}
 use Rattle.book.specs.declared.Checked.{Checked}
-use Rattle.book.specs.declared.Checked.the-variants.{Valid, Refused as Faulty}
+use Rattle.book.specs.declared.Checked.the-variants.{Valid, Refused as CheckedRefused}
 use Rattle.book.specs.declared.Sizes.{Sizes}
-use Rattle.book.specs.declared.Written.the-variants.{Count, Refused as Unwritten}
+use Rattle.book.specs.declared.Written.the-variants.{Count, Refused as WrittenRefused}
 
 -- what a loop over the head knows: the numbers, with where they end, or the refusal
 abbrev pub Headed : Row → List ℕ → Number → Type 0
@@ -33,8 +33,8 @@ Headed w head (Refused r) = w ≡ refused r
 
 -- the verdict on a book of the sizes d whose last row ended so
 abbrev pub closing : Sizes → ℕ → Number → Checked
-closing d end (Refused r) = Faulty r
-closing d end (Value v next) = cond (ltb (next .at) end) (Faulty (record { number = 6; place = next .at })) (Valid d)
+closing d end (Refused r) = CheckedRefused r
+closing d end (Value v next) = cond (ltb (next .at) end) (CheckedRefused (record { number = 6; place = next .at })) (Valid d)
 
 -- ---- the head
 pub sizes-append : (head body : List ℕ) → length head ≡ 5 → sizesOf (head ++ body) ≡ sizesOf head
@@ -53,14 +53,14 @@ head-number i = go (ℕ-discrete i 0)
     go (yes h) e = omega (arith, rw (eq-eqb i 0 h) at e)
     go (no h) e = omega (arith, rw (ne-eqb i 0 h) at e)
 
-pub head-range : (i v : ℕ) → headFault i v ≡ 0 → (getD lowest i 0 ≤ v) × (v ≤ getD highest i 0)
+pub head-range : (i v : ℕ) → headFault i v ≡ 0 → (getD headLowest i 0 ≤ v) × (v ≤ getD headHighest i 0)
 unfolding headFault
-head-range i v e = go (decLe (getD lowest i 0) v) (decLe v (getD highest i 0))
+head-range i v e = go (decLe (getD headLowest i 0) v) (decLe v (getD headHighest i 0))
   where
-    go : Dec (getD lowest i 0 ≤ v) → Dec (v ≤ getD highest i 0) → (getD lowest i 0 ≤ v) × (v ≤ getD highest i 0)
+    go : Dec (getD headLowest i 0 ≤ v) → Dec (v ≤ getD headHighest i 0) → (getD headLowest i 0 ≤ v) × (v ≤ getD headHighest i 0)
     go (yes g) (yes h) = (g, h)
-    go (yes g) (no h) = absurd (head-number i (rw (le-leb _ _ g, lt-leb v (getD highest i 0) (omega arith)) at e))
-    go (no g) d = absurd (head-number i (rw (lt-leb (getD lowest i 0) v (omega arith)) at e))
+    go (yes g) (no h) = absurd (head-number i (rw (le-leb _ _ g, lt-leb v (getD headHighest i 0) (omega arith)) at e))
+    go (no g) d = absurd (head-number i (rw (lt-leb (getD headLowest i 0) v (omega arith)) at e))
 
 pub head-small : (source : ℕ → Number) (head : List ℕ) (at : ℕ) → row source headFault 5 0 0 ≡ read head at → Small (sizesOf head)
 unfolding sizesOf
@@ -74,7 +74,7 @@ head-small source head at e =
 
 -- ---- the verdict
 module _ (source : ℕ → Number) (end : ℕ) where
-  pub checked-stop : (r : Refusal) → row source headFault 5 0 0 ≡ refused r → Faulty r ≡ checked (bookIn source end)
+  pub checked-stop : (r : Refusal) → row source headFault 5 0 0 ≡ refused r → CheckedRefused r ≡ checked (bookIn source end)
   unfolding bookIn
   checked-stop r e = rw e
 
@@ -152,7 +152,7 @@ pub checked-valid : (w : Row) (d : Sizes) → checked w ≡ Valid d → (cells :
 checked-valid (read cells next) d e = (cells, next, refl, cc)
 checked-valid (refused r) d e = absurd (let z : _≡_ {A = ℕ} 0 1 = cc in omega arith)
 
-pub checked-faulty : (w : Row) (r : Refusal) → checked w ≡ Faulty r → w ≡ refused r
+pub checked-faulty : (w : Row) (r : Refusal) → checked w ≡ CheckedRefused r → w ≡ refused r
 checked-faulty (read cells next) r e = absurd (let z : _≡_ {A = ℕ} 0 1 = cc in omega arith)
 checked-faulty (refused q) r e = cc
 
@@ -231,11 +231,11 @@ whole-end cells {out} {next} w =
 
 -- ---- what is delivered into lent memory
 module _ (f : List ℕ → List ℕ) (w : Row) (lent : List ℕ) where
-  pub deliver-stop : (r : Refusal) → w ≡ refused r → (Unwritten r, lent) ≡ delivered f w lent
+  pub deliver-stop : (r : Refusal) → w ≡ refused r → (WrittenRefused r, lent) ≡ delivered f w lent
   deliver-stop r e = rw e
 
   pub deliver-short : (cells : List ℕ) (next : ℕ) → w ≡ read cells next → length lent < length (f cells)
-      → (Unwritten (record { number = 12; place = 0 }), lent) ≡ delivered f w lent
+      → (WrittenRefused (record { number = 12; place = 0 }), lent) ≡ delivered f w lent
   deliver-short cells next e h = rw (e, lt-leb (length (f cells)) (length lent) h)
 
   pub deliver-whole : (cells : List ℕ) (next n : ℕ) (left : List ℕ) → w ≡ read cells next → n ≡ length (f cells) → n ≤ length lent → left ≡ over (f cells) lent

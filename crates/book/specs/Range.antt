@@ -15,11 +15,11 @@ unless true number = 0
 unless false number = number
 
 -- 'Form, always 1; T terminals, 1 to 32; N nonterminals, 0 to 32; S states, 1 to 128; P productions, 0 to 128'
-abbrev pub lowest : List ℕ
-lowest = 1 ∷ 1 ∷ 0 ∷ 1 ∷ 0 ∷ []
+abbrev pub headLowest : List ℕ
+headLowest = 1 ∷ 1 ∷ 0 ∷ 1 ∷ 0 ∷ []
 
-abbrev pub highest : List ℕ
-highest = 1 ∷ 32 ∷ 32 ∷ 128 ∷ 128 ∷ []
+abbrev pub headHighest : List ℕ
+headHighest = 1 ∷ 32 ∷ 32 ∷ 128 ∷ 128 ∷ []
 
 -- '3 form not 1'; '4 T, N, S or P outside its range'
 abbrev pub headNumber : ℕ → ℕ
@@ -27,7 +27,7 @@ headNumber i = cond (eqb i 0) 3 4
 
 -- the refusal of v as number i of these five, 0 for none
 unfoldable pub headFault : ℕ → ℕ → ℕ
-headFault i v = unless (leb (getD lowest i 0) v && leb v (getD highest i 0)) (headNumber i)
+headFault i v = unless (leb (getD headLowest i 0) v && leb v (getD headHighest i 0)) (headNumber i)
 
 -- 'Terminal 0 is the end mark: no state shifts it, and accept stands only under it': the actions allowed under the terminal t
 unfoldable pub allowed : Sizes → ℕ → Action → Bool

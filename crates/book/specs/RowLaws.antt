@@ -107,7 +107,7 @@ refused-not-read : (r : Refusal) (vs : List ℕ) (next : ℕ) → refused r ≡ 
 refused-not-read r vs next e = let z : _≡_ {A = ℕ} 0 1 = cc in omega arith
 
 -- its first number, which has no fault, and the others
-pub record Front (source : ℕ → Number) (fault : ℕ → ℕ → ℕ) (k i at : ℕ) (vs : List ℕ) (next : ℕ) : Type 0 where
+pub record RowFront (source : ℕ → Number) (fault : ℕ → ℕ → ℕ) (k i at : ℕ) (vs : List ℕ) (next : ℕ) : Type 0 where
   pub v : ℕ
   pub cursor : Cursor
   pub rest : List ℕ
@@ -117,20 +117,20 @@ pub record Front (source : ℕ → Number) (fault : ℕ → ℕ → ℕ) (k i at
   pub onward : row source fault k (suc i) (cursor .at) ≡ read rest next
 
 module _ (source : ℕ → Number) (fault : ℕ → ℕ → ℕ) where
-  pub row-front : (k i at : ℕ) (vs : List ℕ) (next : ℕ) → row source fault (suc k) i at ≡ read vs next → Front source fault k i at vs next
+  pub row-front : (k i at : ℕ) (vs : List ℕ) (next : ℕ) → row source fault (suc k) i at ≡ read vs next → RowFront source fault k i at vs next
   unfolding row
   row-front k i at vs next e = first (source at) refl
     where
       rest-of : (v : ℕ) (c : Cursor) → source at ≡ Value v c → fault i v ≡ 0 → (w : Row) → row source fault k (suc i) (c .at) ≡ w
-          → before v w ≡ read vs next → Front source fault k i at vs next
+          → before v w ≡ read vs next → RowFront source fault k i at vs next
       rest-of v c f z (refused r) g h = absurd (refused-not-read r vs next h)
       rest-of v c f z (read ws end) g h = record { v = v; cursor = c; rest = ws; found = f; clean = z; split = cc; onward = let j : end ≡ next = cc in rw g (rw j) }
 
-      second : (v : ℕ) (c : Cursor) → source at ≡ Value v c → Dec (fault i v ≡ 0) → Front source fault k i at vs next
+      second : (v : ℕ) (c : Cursor) → source at ≡ Value v c → Dec (fault i v ≡ 0) → RowFront source fault k i at vs next
       second v c f (yes z) = rest-of v c f z (row source fault k (suc i) (c .at)) refl (rw (f, eq-eqb (fault i v) 0 z) at e)
       second v c f (no z) = absurd (refused-not-read _ vs next (rw (f, ne-eqb (fault i v) 0 z) at e))
 
-      first : (n : Number) → source at ≡ n → Front source fault k i at vs next
+      first : (n : Number) → source at ≡ n → RowFront source fault k i at vs next
       first (Value v c) f = second v c f (ℕ-discrete (fault i v) 0)
       first (Refused r) f = absurd (refused-not-read r vs next (rw f at e))
 

@@ -17,7 +17,7 @@ use Rattle.book.specs.ActionLaws.{action-odd, code-action}
 use Rattle.book.specs.Book.{cellAt, read, row, bookIn, ofBytes, ofCells, bytesOf, checked}
 use Rattle.book.specs.BookLaws.{book-whole, cells-row, checked-valid, head-range, sizes-take}
 use Rattle.book.specs.BytesLaws.{bytes-append}
-use Rattle.book.specs.Range.{highest, headFault, bodyFault, bodyLength, allowed, fits, Small}
+use Rattle.book.specs.Range.{headHighest, headFault, bodyFault, bodyLength, allowed, fits, Small}
 use Rattle.book.specs.RangeLaws.{actions-few, gotos-few}
 use Rattle.book.specs.RoundTripLaws.{read-written, written-read}
 use Rattle.book.specs.RowLaws.{row-clean}
@@ -85,13 +85,13 @@ module _ (d : Sizes) (h : Small d) (i v : ℕ) where
           action-wide d h ((i - 2 * d .p) % d .t) v (actionOf v) (rw (le-ltb i (2 * d .p) (omega arith), lt-ltb i (2 * d .p + d .s * d .t) k) at e) (code-action v)
       go (no l) (no k) = omega (arith, leb-true v (d .s) (rw (le-ltb i (2 * d .p) (omega arith), le-ltb i (2 * d .p + d .s * d .t) (omega arith)) at e), h .states)
 
-highest-narrow : (j : ℕ) → j < 3 → getD highest j 0 < 128
+highest-narrow : (j : ℕ) → j < 3 → getD headHighest j 0 < 128
 highest-narrow zero l = omega arith
 highest-narrow (suc zero) l = omega arith
 highest-narrow (suc (suc zero)) l = omega arith
 highest-narrow (suc (suc (suc j))) l = absurd (omega arith)
 
-highest-wide : (j : ℕ) → getD highest j 0 < 16384
+highest-wide : (j : ℕ) → getD headHighest j 0 < 16384
 highest-wide zero = omega arith
 highest-wide (suc zero) = omega arith
 highest-wide (suc (suc zero)) = omega arith
@@ -100,7 +100,7 @@ highest-wide (suc (suc (suc (suc zero)))) = omega arith
 highest-wide (suc (suc (suc (suc (suc j))))) = omega arith
 
 module _ {d : Sizes} {cells : List ℕ} (h : Holds d cells) where
-  head-most : (j : ℕ) → j < 5 → getD cells j 0 ≤ getD highest j 0
+  head-most : (j : ℕ) → j < 5 → getD cells j 0 ≤ getD headHighest j 0
   unfolding ofCells
   head-most j l =
       let w = book-whole (cellAt cells) (length cells) cells (length cells) (h .book) in

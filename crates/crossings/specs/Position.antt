@@ -32,10 +32,10 @@ pub record Positions (d : Sizes) (B : Tables) (k : ℕ) (positions : List ℕ) :
   pub barred : (n q : ℕ) → n < 32 → q < d .s → k ≤ n * 128 + q → positionIn positions n q ≡ 0 → Barred B positions n q
 
 -- what a layer of n transitions is wanted for: every state of the first, and those whose flag is set
-pub record Passed (positions : List ℕ) (n q : ℕ) : Type 0 where
+pub record PositionPassed (positions : List ℕ) (n q : ℕ) : Type 0 where
   pub on : (k : ℕ) → n ≡ k + 1 → ¬ (positionIn positions k q ≡ 0)
 
 -- the first i flags after n + 1 transitions are copied
-pub record Copied (positions : List ℕ) (n i : ℕ) (wanted : List ℕ) : Type 0 where
+pub record RowCopied (positions : List ℕ) (n i : ℕ) (wanted : List ℕ) : Type 0 where
   pub size : length wanted ≡ 128
   pub same : (q : ℕ) → q < i → getD wanted q 0 ≡ positionIn positions n q

@@ -5,7 +5,7 @@ ghost use Prim.Native.Nat.{ℕ, _+_, _≤_, _<_};
 ghost use lib.ListN.{length};
 ghost use Rattle.book.specs.Tables.{tablesOf};
 ghost use Rattle.book.specs.TablesLaws.{Holds};
-ghost use Rattle.crossings.specs.Position.{positionIn, BarredAction, BarredGoto, Barred, Positions, Copied};
+ghost use Rattle.crossings.specs.Position.{positionIn, BarredAction, BarredGoto, Barred, Positions, RowCopied};
 use book::Action;
 use book::Sizes;
 use book::action_at;
@@ -141,7 +141,7 @@ pub fn mark_all(cells: &[u16], d: Sizes, positions: &mut [u8; 4096])
 // The flags of all states after n + 1 transitions.
 pub fn copy_row(positions: &[u8; 4096], n: usize, wanted: &mut [u8; 128])
     requires { ⌜ (n < 32) × (length (now wanted) ≡ 128) ⌝ }
-    ensures { λ _. ⌜ Copied (now (positions .entry)) n 128 (now (wanted .exit)) ⌝ }
+    ensures { λ _. ⌜ RowCopied (now (positions .entry)) n 128 (now (wanted .exit)) ⌝ }
 {
     let row = n * 128;
     let mut q: usize = 0;

@@ -3,7 +3,7 @@ ghost use mathlib.Core.Path.{_≡_};
 ghost use Prim.Native.Nat.{ℕ, suc, _≤_, _<_};
 ghost use Rattle.book.specs.Tables.{tablesOf};
 ghost use Rattle.book.specs.TablesLaws.{Holds};
-ghost use Rattle.crossings.specs.Pass.{Longest};
+ghost use Rattle.crossings.specs.Pass.{LongestFrom};
 use book::Sizes;
 use book::goto_at;
 use book::left_side;
@@ -26,7 +26,7 @@ fn longer(cells: &[u16], d: Sizes, q: usize, p: usize, r: usize) -> usize
 pub fn longest(cells: &[u16], d: Sizes, q: usize) -> usize
     requires { ⌜ Holds d (now cells) ⌝ }
     requires { ⌜ q < d .s ⌝ }
-    ensures { λ r. ⌜ Longest (tablesOf (now (cells .entry))) q (d .p) r ⌝ }
+    ensures { λ r. ⌜ LongestFrom (tablesOf (now (cells .entry))) q (d .p) r ⌝ }
 {
     let n = d.p;
     let mut r: usize = 0;

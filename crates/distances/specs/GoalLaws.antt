@@ -22,17 +22,17 @@ use Rattle.walk.specs.LayersLaws.{goal-least}
 use Rattle.layers.specs.Crossing.{crossingRow, claimIn, Quiet}
 use Rattle.layers.specs.CrossingLaws.{terminals-are, states-are}
 use Rattle.layers.specs.Layer.{entryIn}
-use Rattle.layers.specs.Step.{Step, Upto}
+use Rattle.layers.specs.Step.{TableStep, Upto}
 use Rattle.layers.specs.StepLaws.{step-none, step-as}
 use Rattle.crossings.specs.Crossings.{CrossingTable}
 use Rattle.crossings.specs.Falling.{Stored, kept, stored, Each}
 use Rattle.distances.specs.Distances.{distanceIn, Goals, GoalIn, GoalTable}
 use Rattle.distances.specs.DistancesLaws.{distance-entry, distance-out, distance-other}
-use Rattle.distances.specs.Pass.{Bounded, Marked, From, Drawn, Lessened, LessenedUpto, PastShift, PastGoto, ByShift, by-shift, ByGoto, by-goto, Nearest}
+use Rattle.distances.specs.Pass.{Bounded, Marked, From, Drawn, Lessened, LessenedUpto, PastShift, PastGoto, TowardShift, by-shift, TowardGoto, by-goto, LeastApproach}
 use Rattle.distances.specs.TableLaws.{table-closed, table-witnessed}
 
 -- the least of v and one candidate
-pub lessened : {σ : Scale} (v w x y r : ℕ) → r ≡ min x y → x ≡ v → y ≡ w → Step σ (λ q z u. u ≡ w) (λ q z. v) (λ q z. r)
+pub lessened : {σ : Scale} (v w x y r : ℕ) → r ≡ min x y → x ≡ v → y ≡ w → TableStep σ (λ q z u. u ≡ w) (λ q z. v) (λ q z. r)
 lessened v w x y r m ex ey = record {
   fall = λ q z h. omega arith;
   below = λ q z u e h l. omega arith;
@@ -46,37 +46,37 @@ lessened v w x y r m ex ey = record {
 module _ {σ : Scale} {d : Sizes} {cells : List ℕ} (h : Holds d cells) (dist : List ℕ) where
   -- the shift of a ..
   pub to-shift : (q a : ℕ) {g v r : ℕ} → tablesOf cells .act q a ≡ Shift g → LessenedUpto σ (PastShift σ (shiftCost σ a) (distanceIn σ dist) g) (d .t) v r
-      → Lessened σ (ByShift σ d (tablesOf cells) (distanceIn σ dist) q a) v r
+      → Lessened σ (TowardShift σ d (tablesOf cells) (distanceIn σ dist) q a) v r
   to-shift q a {g} {v} {r} e s = step-as (λ q′ z w (b, hb, i). rw i (by-shift b e hb)) (λ q′ z w x. back w x) s
     where
-      back : (w : ℕ) → ByShift σ d (tablesOf cells) (distanceIn σ dist) q a w → (b : ℕ) × (b < d .t) × PastShift σ (shiftCost σ a) (distanceIn σ dist) g b w
+      back : (w : ℕ) → TowardShift σ d (tablesOf cells) (distanceIn σ dist) q a w → (b : ℕ) × (b < d .t) × PastShift σ (shiftCost σ a) (distanceIn σ dist) g b w
       back _ (by-shift {g = g′} b f hb) = let i : g′ ≡ g = cc in (b, hb, rw i refl)
 
-  pub to-no-shift : (q a v : ℕ) → ((s : ℕ) → tablesOf cells .act q a ≡ Shift s → ⊥) → Lessened σ (ByShift σ d (tablesOf cells) (distanceIn σ dist) q a) v v
+  pub to-no-shift : (q a v : ℕ) → ((s : ℕ) → tablesOf cells .act q a ≡ Shift s → ⊥) → Lessened σ (TowardShift σ d (tablesOf cells) (distanceIn σ dist) q a) v v
   to-no-shift q a v f = step-none (λ q′ z w x l u. back w x)
     where
-      back : (w : ℕ) → ByShift σ d (tablesOf cells) (distanceIn σ dist) q a w → ⊥
+      back : (w : ℕ) → TowardShift σ d (tablesOf cells) (distanceIn σ dist) q a w → ⊥
       back _ (by-shift {g} b e hb) = f g e
 
   -- .. and the goto under X
   pub to-goto : (q a X : ℕ) {g v r start : ℕ} (table : List ℕ) → tablesOf cells .goto q X ≡ suc g → start ≡ crossingRow d q X a
-      → LessenedUpto σ (PastGoto σ (distanceIn σ dist) table start g) (d .t) v r → Lessened σ (ByGoto σ d (tablesOf cells) (claimIn d table) (distanceIn σ dist) q a X) v r
+      → LessenedUpto σ (PastGoto σ (distanceIn σ dist) table start g) (d .t) v r → Lessened σ (TowardGoto σ d (tablesOf cells) (claimIn d table) (distanceIn σ dist) q a X) v r
   unfolding claimIn
   to-goto q a X {g} {v} {r} {start} table e i s = step-as (λ q′ z w (b, hb, k). rw (k, i) (by-goto b e hb)) (λ q′ z w x. back w x) s
     where
-      back : (w : ℕ) → ByGoto σ d (tablesOf cells) (claimIn d table) (distanceIn σ dist) q a X w → (b : ℕ) × (b < d .t) × PastGoto σ (distanceIn σ dist) table start g b w
+      back : (w : ℕ) → TowardGoto σ d (tablesOf cells) (claimIn d table) (distanceIn σ dist) q a X w → (b : ℕ) × (b < d .t) × PastGoto σ (distanceIn σ dist) table start g b w
       back _ (by-goto {g = g′} b f hb) = let k : g′ ≡ g = omega arith in (b, hb, rw (k, i) refl)
 
-  pub to-no-goto : (q a X v : ℕ) (claim : Claims) → tablesOf cells .goto q X ≡ 0 → Lessened σ (ByGoto σ d (tablesOf cells) claim (distanceIn σ dist) q a X) v v
+  pub to-no-goto : (q a X v : ℕ) (claim : Claims) → tablesOf cells .goto q X ≡ 0 → Lessened σ (TowardGoto σ d (tablesOf cells) claim (distanceIn σ dist) q a X) v v
   to-no-goto q a X v claim e = step-none (λ q′ z w x l u. back w x)
     where
-      back : (w : ℕ) → ByGoto σ d (tablesOf cells) claim (distanceIn σ dist) q a X w → ⊥
+      back : (w : ℕ) → TowardGoto σ d (tablesOf cells) claim (distanceIn σ dist) q a X w → ⊥
       back _ (by-goto b f hb) = omega arith
 
   module _ {claim : Claims} {q a r : ℕ} (ha : a < tablesOf cells .terminals)
-      (s : Step σ (λ q′ z w. ByShift σ d (tablesOf cells) (distanceIn σ dist) q a w ⊎ Upto (λ X q″ y u. ByGoto σ d (tablesOf cells) claim (distanceIn σ dist) q a X u) (d .n) q′ z w) (λ q′ z. (unreached σ)) (λ q′ z. r)) where
+      (s : TableStep σ (λ q′ z w. TowardShift σ d (tablesOf cells) (distanceIn σ dist) q a w ⊎ Upto (λ X q″ y u. TowardGoto σ d (tablesOf cells) claim (distanceIn σ dist) q a X u) (d .n) q′ z w) (λ q′ z. (unreached σ)) (λ q′ z. r)) where
     candidate : {v : ℕ} → Sooner σ (tablesOf cells) claim (distanceIn σ dist) q a v
-        → ByShift σ d (tablesOf cells) (distanceIn σ dist) q a v ⊎ Upto (λ X q″ y u. ByGoto σ d (tablesOf cells) claim (distanceIn σ dist) q a X u) (d .n) 0 0 v
+        → TowardShift σ d (tablesOf cells) (distanceIn σ dist) q a v ⊎ Upto (λ X q″ y u. TowardGoto σ d (tablesOf cells) claim (distanceIn σ dist) q a X u) (d .n) 0 0 v
     candidate (from-shift b e hb) = inl (by-shift b e (rw (terminals-are h) at hb))
     candidate (from-goto {q₁} X b g hb) = let (lq, lX, lg) = goto-some h q X q₁ g in inr (X, lX, by-goto b g (rw (terminals-are h) at hb))
 
@@ -92,18 +92,18 @@ module _ {σ : Scale} {d : Sizes} {cells : List ℕ} (h : Holds d cells) (dist :
     pub sooner-attained : (r ≡ unreached σ) ⊎ Sooner σ (tablesOf cells) claim (distanceIn σ dist) q a r
     sooner-attained = ⊎-elim inl (λ c. inr (⊎-elim (λ x. shift x) (λ (X, hX, x). goto X x) c)) (s .attained 0 0 (omega arith))
       where
-        shift : {w : ℕ} → ByShift σ d (tablesOf cells) (distanceIn σ dist) q a w → Sooner σ (tablesOf cells) claim (distanceIn σ dist) q a w
+        shift : {w : ℕ} → TowardShift σ d (tablesOf cells) (distanceIn σ dist) q a w → Sooner σ (tablesOf cells) claim (distanceIn σ dist) q a w
         shift (by-shift b e hb) = from-shift b e (rw (terminals-are h) hb)
 
-        goto : {w : ℕ} (X : ℕ) → ByGoto σ d (tablesOf cells) claim (distanceIn σ dist) q a X w → Sooner σ (tablesOf cells) claim (distanceIn σ dist) q a w
+        goto : {w : ℕ} (X : ℕ) → TowardGoto σ d (tablesOf cells) claim (distanceIn σ dist) q a X w → Sooner σ (tablesOf cells) claim (distanceIn σ dist) q a w
         goto X (by-goto b e hb) = from-goto X b e (rw (terminals-are h) hb)
 
-    pub nearest : distanceIn σ dist q a ≤ r → Nearest σ (tablesOf cells) claim q a (distanceIn σ dist)
+    pub nearest : distanceIn σ dist q a ≤ r → LeastApproach σ (tablesOf cells) claim q a (distanceIn σ dist)
     nearest l = record { bound = λ x. le-trans l (sooner-below x) }
 
   -- where no walk begins nothing is near
   pub nearest-unopened : {claim : Claims} {q a : ℕ} → Quiet σ (tablesOf cells) claim → ¬ Opens (tablesOf cells) q a → a < tablesOf cells .terminals
-      → Bounded σ (tablesOf cells .terminals) dist → Nearest σ (tablesOf cells) claim q a (distanceIn σ dist)
+      → Bounded σ (tablesOf cells .terminals) dist → LeastApproach σ (tablesOf cells) claim q a (distanceIn σ dist)
   nearest-unopened {claim} {q} {a} k o ha b = record { bound = λ x. low x }
     where
       low : {v : ℕ} → Sooner σ (tablesOf cells) claim (distanceIn σ dist) q a v → distanceIn σ dist q a ≤ v
@@ -151,8 +151,8 @@ below-all {σ} {t} {flags} {dist} m = record { count = m .count; off = λ q z hz
     off q z hz e (no l) = distance-out σ dist q z (omega arith)
 
 -- from the last state to the first is every state
-pub nearest-back : (σ : Scale) (B : Tables) (claim : Claims) (t s : ℕ) (l : List ℕ) → Each (λ i. Each (λ a l. Nearest σ B claim (s - 1 - i) a (distanceIn σ l)) t) s l
-    → Each (λ q. Each (λ a l. Nearest σ B claim q a (distanceIn σ l)) t) s l
+pub nearest-back : (σ : Scale) (B : Tables) (claim : Claims) (t s : ℕ) (l : List ℕ) → Each (λ i. Each (λ a l. LeastApproach σ B claim (s - 1 - i) a (distanceIn σ l)) t) s l
+    → Each (λ q. Each (λ a l. LeastApproach σ B claim q a (distanceIn σ l)) t) s l
 nearest-back σ B claim t s l f q h a ha = let i : s - 1 - (s - 1 - q) ≡ q = omega arith in rw i at (f (s - 1 - q) (omega arith) a ha)
 
 -- the set of goal pairs is bounded
@@ -183,7 +183,7 @@ module _ {σ : Scale} {d : Sizes} {cells table goals : List ℕ} (h : Holds d ce
       go (no l) = inl (x .sum ∙ plus-far-right σ _ _ (omega (arith, distance-out σ goals (x .state) (x .next) (omega arith))))
 
   pub goal-table : {dist : List ℕ} → Drawn σ (tablesOf cells) (claimIn d table) goals dist
-      → Each (λ q. Each (λ a l. Nearest σ (tablesOf cells) (claimIn d table) q a (distanceIn σ l)) (d .t)) (d .s) dist → GoalTable σ d cells goals dist
+      → Each (λ q. Each (λ a l. LeastApproach σ (tablesOf cells) (claimIn d table) q a (distanceIn σ l)) (d .t)) (d .s) dist → GoalTable σ d cells goals dist
   goal-table {dist} w near = record {
     size = w .bounded .size;
     exact = λ q a hq ha. rw (← distance-entry σ dist q a (omega (arith, h .small .states)))

@@ -12,14 +12,14 @@ use Rattle.walk.specs.Cost.{plus}
 use Rattle.walk.specs.Claims.{Claims, Claimed, Arrival}
 use Rattle.walk.specs.Layers.{Sooner}
 use Rattle.layers.specs.Layer.{entryIn}
-use Rattle.layers.specs.Step.{Step, Upto}
+use Rattle.layers.specs.Step.{TableStep, Upto}
 use Rattle.crossings.specs.Falling.{Fallen}
 use Rattle.distances.specs.Distances.{distanceIn}
 
 -- entries are lowered to candidates in P
 pub record Merged (σ : Scale) (P : ℕ → ℕ → ℕ → Type 0) (n : ℕ) (old new : List ℕ) : Type 0 where
   pub size : length new ≡ 4096
-  pub step : Step σ P (entryIn old) (entryIn new)
+  pub step : TableStep σ P (entryIn old) (entryIn new)
   pub fallen : Fallen n old new
 
 -- turn z over row q of a layer: its cost there
@@ -60,11 +60,11 @@ pub record Drawn (σ : Scale) (B : Tables) (claim : Claims) (old new : List ℕ)
 
 -- r is the least of v and those of the candidates in P that are below unreached
 abbrev pub Lessened : Scale → (ℕ → Type 0) → ℕ → ℕ → Type 0
-Lessened σ P v r = Step σ (λ q z w. P w) (λ q z. v) (λ q z. r)
+Lessened σ P v r = TableStep σ (λ q z w. P w) (λ q z. v) (λ q z. r)
 
 -- .. in the turns below i
 abbrev pub LessenedUpto : Scale → (ℕ → ℕ → Type 0) → ℕ → ℕ → ℕ → Type 0
-LessenedUpto σ P i v r = Step σ (Upto (λ j q z w. P j w) i) (λ q z. v) (λ q z. r)
+LessenedUpto σ P i v r = TableStep σ (Upto (λ j q z w. P j w) i) (λ q z. v) (λ q z. r)
 
 -- turn b over row g: one symbol more, at what it costs, or what a row of the crossing table has for b
 abbrev pub PastShift : Scale → ℕ → (ℕ → ℕ → ℕ) → ℕ → ℕ → ℕ → Type 0
@@ -74,12 +74,12 @@ abbrev pub PastGoto : Scale → (ℕ → ℕ → ℕ) → List ℕ → ℕ → �
 PastGoto σ G table start g b w = w ≡ plus σ (getD table (start + b) 0) (G g b)
 
 -- one transition from (q, a) leads to where G has a cost: a shift, the goto under X, any
-pub data ByShift (σ : Scale) (d : Sizes) (B : Tables) (G : ℕ → ℕ → ℕ) (q a : ℕ) : ℕ → Type 0 where
-  by-shift : {g : ℕ} (b : ℕ) → B .act q a ≡ Shift g → b < d .t → ByShift σ d B G q a (plus σ (shiftCost σ a) (G g b))
+pub data TowardShift (σ : Scale) (d : Sizes) (B : Tables) (G : ℕ → ℕ → ℕ) (q a : ℕ) : ℕ → Type 0 where
+  by-shift : {g : ℕ} (b : ℕ) → B .act q a ≡ Shift g → b < d .t → TowardShift σ d B G q a (plus σ (shiftCost σ a) (G g b))
 
-pub data ByGoto (σ : Scale) (d : Sizes) (B : Tables) (claim : Claims) (G : ℕ → ℕ → ℕ) (q a X : ℕ) : ℕ → Type 0 where
-  by-goto : {g : ℕ} (b : ℕ) → B .goto q X ≡ suc g → b < d .t → ByGoto σ d B claim G q a X (plus σ (claim q X a b) (G g b))
+pub data TowardGoto (σ : Scale) (d : Sizes) (B : Tables) (claim : Claims) (G : ℕ → ℕ → ℕ) (q a X : ℕ) : ℕ → Type 0 where
+  by-goto : {g : ℕ} (b : ℕ) → B .goto q X ≡ suc g → b < d .t → TowardGoto σ d B claim G q a X (plus σ (claim q X a b) (G g b))
 
 -- no transition from (q, a) makes less than the distance there
-pub record Nearest (σ : Scale) (B : Tables) (claim : Claims) (q a : ℕ) (G : ℕ → ℕ → ℕ) : Type 0 where
+pub record LeastApproach (σ : Scale) (B : Tables) (claim : Claims) (q a : ℕ) (G : ℕ → ℕ → ℕ) : Type 0 where
   pub bound : {v : ℕ} → Sooner σ B claim G q a v → G q a ≤ v

@@ -147,13 +147,13 @@ module _ {σ : Scale} {B : Tables} {claim : Claims} where
       drawn q′ z h (no i) j = rw (other q′ z h (λ e f. i e)) (same .drawn q′ z h)
 
   -- ---- passes over them
-  pub pass-idle : {D : List ℕ → Type 0} {l : List ℕ} → Bounded σ (B .terminals) l → D l → Pass (Drawn σ B claim) D 0 l l
-  pass-idle b x = pass-none (drawn-same b) x
+  pub distance-pass-idle : {D : List ℕ → Type 0} {l : List ℕ} → Bounded σ (B .terminals) l → D l → Pass (Drawn σ B claim) D 0 l l
+  distance-pass-idle b x = pass-none (drawn-same b) x
 
   pub pass-store : {D : List ℕ → Type 0} {old new : List ℕ} {r : ℕ} (q a v : ℕ) → B .terminals ≤ 32 → q < 128 → a < B .terminals
       → (v ≡ unreached σ) ⊎ Sooner σ B claim (distanceIn σ old) q a v → Bounded σ (B .terminals) old → (distanceIn σ old q a ≤ v → D old)
       → Stored (q * 32 + a) v old r new → Pass (Drawn σ B claim) D r old new
-  pass-store {old} q a v small hq ha x b f (kept l) = pass-idle b (f (omega (arith, distance-read σ old q a hq)))
+  pass-store {old} q a v small hq ha x b f (kept l) = distance-pass-idle b (f (omega (arith, distance-read σ old q a hq)))
   pass-store {old} q a v small hq ha x b f (stored l) = record {
     keeps = drawn-set q a v small hq ha l x b;
     fallen = fallen-set old (q * 32 + a) v (omega (arith, b .size)) l;

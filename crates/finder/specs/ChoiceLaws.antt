@@ -6,23 +6,23 @@ use native.Mathlib.Omega.{arith}
 use Rattle.finder.specs.Choice.{LowestFrom}
 
 -- what was passed over so far
-pub record Passed (P : ℕ → Type 0) (a x : ℕ) : Type 0 where
+pub record PassedOver (P : ℕ → Type 0) (a x : ℕ) : Type 0 where
   pub from : a ≤ x
   pub before : (y : ℕ) → a ≤ y → y < x → P y → ⊥
 
 module _ {P : ℕ → Type 0} {a : ℕ} where
-  pub passed-none : Passed P a a
-  passed-none = record { from = omega arith; before = λ y h l p. omega (arith, h, l) }
+  pub passed-over-none : PassedOver P a a
+  passed-over-none = record { from = omega arith; before = λ y h l p. omega (arith, h, l) }
 
-  pub passed-more : {x : ℕ} → Passed P a x → (P x → ⊥) → Passed P a (x + 1)
-  passed-more {x} p n = record { from = omega (arith, p .from); before = λ y h l q. go y h l q (ℕ-discrete y x) }
+  pub passed-over-more : {x : ℕ} → PassedOver P a x → (P x → ⊥) → PassedOver P a (x + 1)
+  passed-over-more {x} p n = record { from = omega (arith, p .from); before = λ y h l q. go y h l q (ℕ-discrete y x) }
     where
       go : (y : ℕ) → a ≤ y → y < x + 1 → P y → Dec (y ≡ x) → ⊥
       go y h l q (yes e) = n (rw e at q)
       go y h l q (no e) = p .before y h (omega arith) q
 
-  pub passed-found : {x : ℕ} (n : ℕ) → Passed P a x → P x → LowestFrom P a n x
+  pub passed-found : {x : ℕ} (n : ℕ) → PassedOver P a x → P x → LowestFrom P a n x
   passed-found n p q = record { found = λ l. q; from = p .from; before = p .before }
 
-  pub passed-all : {x : ℕ} (n : ℕ) → Passed P a x → n ≤ x → LowestFrom P a n x
+  pub passed-all : {x : ℕ} (n : ℕ) → PassedOver P a x → n ≤ x → LowestFrom P a n x
   passed-all n p h = record { found = λ l. absurd (omega (arith, l)); from = p .from; before = p .before }

@@ -2,7 +2,7 @@
 use mathlib.Core.Path.{_≡_, refl}
 use Prim.Native.Nat.{ℕ, _≤_, _<_}
 use Rattle.book.specs.declared.Checked.{Checked}
-use Rattle.book.specs.declared.Checked.the-variants.{Valid, Refused as Faulty}
+use Rattle.book.specs.declared.Checked.the-variants.{Valid, Refused as CheckedRefused}
 use Rattle.book.specs.declared.Sizes.{Sizes}
 use Rattle.machine.specs.AdmissionLaws.{past-short, past-beyond}
 use Rattle.machine.specs.MachineLaws.{clash}
@@ -18,7 +18,7 @@ pub record PairAdmitted (s z work buffer : ℕ) (found : Checked) (d : Sizes) : 
 
 pub pair-admitted : (s z work buffer : ℕ) (found : Checked) (d : Sizes) → admitsPair s z work buffer found ≡ Valid d → PairAdmitted s z work buffer found d
 unfolding admitsPair
-pair-admitted s z work buffer (Faulty r) d e = absurd (clash cc)
+pair-admitted s z work buffer (CheckedRefused r) d e = absurd (clash cc)
 pair-admitted s z work buffer (Valid x) d e =
     let (state, e₁) = past-beyond s (x .s) _ _ e in
     let (lookahead, e₂) = past-beyond z (x .t) _ _ e₁ in

@@ -50,10 +50,10 @@ module _ {g : ℕ → ℕ} where
       found (no l) = (t, omega arith, omega arith)
 
 -- ---- from the start
-pub start-exact : {B : Tables} {s z m : ℕ} {G : ℕ → ℕ} → InRange B → z < B .terminals
+pub pair-start-exact : {B : Tables} {s z m : ℕ} {G : ℕ → ℕ} → InRange B → z < B .terminals
     → ((a : ℕ) → a < B .terminals → Exact plain (λ w. (n s′ z′ : ℕ) × OnePair s z s′ z′ × Walk B 0 a w z′ n s′) (G a))
     → Minimum G (B .terminals) m → Exact plain (λ w. Reaches B w z s) m
-start-exact {B} {s} {z} {m} {G} i hz e x = record {
+pair-start-exact {B} {s} {z} {m} {G} i hz e x = record {
   least = λ w r. let (n, k) = reaches-walk r in let ha = walk-terminal i hz k in omega (arith, x .below (first w z) ha, e (first w z) ha .least w (n, s, z, (refl, refl), k));
   attained = let (a, ha, h) = x .attained in ⊎-elim
       (λ u. inl (h ∙ u))
@@ -85,7 +85,7 @@ module _ {d : Sizes} {cells goals dist : List ℕ} {s z : ℕ} (h : Holds d cell
   pub pair-reached : {n : ℕ} → Minimum (entryIn dist 0) (d .t) n → Exact plain (λ w. Reaches (tablesOf cells) w z s) n
   pair-reached m =
       let t = terminals-are h in
-      start-exact {G = entryIn dist 0} (in-range h) (rw t hz) (λ a ha. pair-exact 0 a (h .small .some-state) (rw t at ha)) (rw t m)
+      pair-start-exact {G = entryIn dist 0} (in-range h) (rw t hz) (λ a ha. pair-exact 0 a (h .small .some-state) (rw t at ha)) (rw t m)
 
   pub to-pair : {table : List ℕ} → CrossingTable plain d cells table → ToPair plain (tablesOf cells) (claimIn d table) s z (entryIn dist)
   to-pair t q a hq ha =

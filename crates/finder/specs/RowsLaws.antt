@@ -14,13 +14,13 @@ use Rattle.book.specs.IndexLaws.{index-below, row-below}
 use Rattle.finder.specs.Rows.{row, rows}
 
 module _ (from : List ℕ) (t : ℕ) (fits : length from ≡ 4096) (narrow : t ≤ 32) where
-  pub row-length : (q : ℕ) → q < 128 → length (row from t q) ≡ t
-  row-length q h = simp (length-take, length-drop) (omega arith)
+  pub row-of-length : (q : ℕ) → q < 128 → length (row from t q) ≡ t
+  row-of-length q h = simp (length-take, length-drop) (omega arith)
 
   pub rows-length : (s : ℕ) → s ≤ 128 → length (rows from t s) ≡ s * t
   unfolding rows
   rows-length zero h = sym (zero-mul t)
-  rows-length (suc s) h = rw (length-append, suc-mul, rows-length s (omega arith), row-length s h)
+  rows-length (suc s) h = rw (length-append, suc-mul, rows-length s (omega arith), row-of-length s h)
 
   -- the entry (q, z)
   pub rows-entry : (s q z : ℕ) → s ≤ 128 → q < s → z < t → getD (rows from t s) (q * t + z) 0 ≡ getD from (q * 32 + z) 0
@@ -46,24 +46,24 @@ module _ (from : List ℕ) (t : ℕ) (fits : length from ≡ 4096) (narrow : t �
       let last = row from t s in
       let now = over done to in
       let before = rows-length s (omega arith) in
-      let long = row-length s h in
+      let long = row-of-length s h in
       let enough : length done + length last ≤ length to = omega (arith, suc-mul s t) in
       ap₂ (λ (a b : ℕ). take a now ++ last ++ drop (a + b) now) (sym before) (sym long)
       ∙ sym (sets-eq last now (length done) (rw (length-over done to (omega arith)) enough))
       ∙ over-more done last to enough
 
 -- ---- copying: i entries from a place of one list stand at a place of another
-pub record Copied (from : List ℕ) (start : ℕ) (lent : List ℕ) (at : ℕ) (now : List ℕ) (i : ℕ) : Type 0 where
+pub record EntriesCopied (from : List ℕ) (start : ℕ) (lent : List ℕ) (at : ℕ) (now : List ℕ) (i : ℕ) : Type 0 where
   pub size : length now ≡ length lent
   pub same : now ≡ paste lent at (drop start from) i
 
 module _ {from : List ℕ} {start : ℕ} {lent : List ℕ} {at : ℕ} where
-  pub copied-none : Copied from start lent at lent 0
-  copied-none = record { size = refl; same = paste-zero lent at (drop start from) }
+  pub entries-copied-none : EntriesCopied from start lent at lent 0
+  entries-copied-none = record { size = refl; same = paste-zero lent at (drop start from) }
 
-  pub copied-more : {now : List ℕ} {i : ℕ} → Copied from start lent at now i → at + i < length lent → start + i < length from
-      → Copied from start lent at (set now (at + i) (getD from (start + i) 0)) (i + 1)
-  copied-more {now} {i} c h l = record {
+  pub entries-copied-more : {now : List ℕ} {i : ℕ} → EntriesCopied from start lent at now i → at + i < length lent → start + i < length from
+      → EntriesCopied from start lent at (set now (at + i) (getD from (start + i) 0)) (i + 1)
+  entries-copied-more {now} {i} c h l = record {
     size = length-set now (at + i) _ ∙ c .size;
     same = rw (c .same, ← getD-drop, add-one) (paste-suc lent at (drop start from) i 0 h (rw length-drop (omega arith)));
   }

@@ -73,9 +73,9 @@ abbrev pub DecidesFails : Tables → (ℕ → Bool) → Type 0
 DecidesFails B fails = (s : ℕ) → s < B .states → Decides (fails s) (Fails B s)
 
 -- 'uncovered, with the lowest state' that lacks an entry, of k states from s on, 'or else complete'
-unfoldable pub lowest : (ℕ → Bool) → ℕ → ℕ → Judgement
-lowest lacks zero s = Complete
-lowest lacks (suc k) s = cond (lacks s) (Uncovered s) (lowest lacks k (suc s))
+unfoldable pub lowestState : (ℕ → Bool) → ℕ → ℕ → Judgement
+lowestState lacks zero s = Complete
+lowestState lacks (suc k) s = cond (lacks s) (Uncovered s) (lowestState lacks k (suc s))
 
 -- '.. that has a failing pair and no entry'
 abbrev pub uncovered : (ℕ → Bool) → List ℕ → ℕ → Bool
@@ -84,14 +84,14 @@ uncovered fails states s = fails s && not (among s states)
 -- the judgement of entries that took this course: the first fault; 'Without a fault it is uncovered .. or else complete'
 pub data Judged (B : Tables) (c : Course) : Judgement → Type 0 where
   faulty : (j : Judgement) → c ≡ fault j → Judged B c j
-  faultless : (states : List ℕ) (fails : ℕ → Bool) → c ≡ clean states → DecidesFails B fails → Judged B c (lowest (uncovered fails states) (B .states) 0)
+  faultless : (states : List ℕ) (fails : ℕ → Bool) → c ≡ clean states → DecidesFails B fails → Judged B c (lowestState (uncovered fails states) (B .states) 0)
 
 -- ---- the call
 -- 'Any other call that needs work or stack cells is lent at least as many as the finder or a run': '13 work or stack cells too few' after the
 -- refusals of the book and the list, the work cells first, at place 0
-unfoldable pub admits : ℕ → ℕ → Sizes → Listed → Listed
-admits work stack d (refused r) = refused r
-admits work stack d (entries es end) =
+unfoldable pub admitsList : ℕ → ℕ → Sizes → Listed → Listed
+admitsList work stack d (refused r) = refused r
+admitsList work stack d (entries es end) =
     cond (ltb work (workCells d)) (refused (record { number = 13; place = 0 }))
     (cond (ltb stack 1024) (refused (record { number = 13; place = 0 })) (entries es end))
 
@@ -101,7 +101,7 @@ zeroed stack = over (replicate 1024 0) stack
 
 -- what `judge` answers and leaves in the work cells and in the stack cells. A refusal 'leaves all lent memory as it found it'
 pub data Judges (cells bytes work stack : List ℕ) : Judgement → List ℕ → List ℕ → Type 0 where
-  refuses : (r : Refusal) → admits (length work) (length stack) (sizesOf cells) (listIn cells bytes) ≡ refused r
+  refuses : (r : Refusal) → admitsList (length work) (length stack) (sizesOf cells) (listIn cells bytes) ≡ refused r
       → Judges cells bytes work stack (Refused r) work stack
-  judges : (es : List Entry) (end : ℕ) (j : Judgement) → admits (length work) (length stack) (sizesOf cells) (listIn cells bytes) ≡ entries es end
+  judges : (es : List Entry) (end : ℕ) (j : Judgement) → admitsList (length work) (length stack) (sizesOf cells) (listIn cells bytes) ≡ entries es end
       → Judged (tablesOf cells) (course (tablesOf cells) bytes 0 [] es) j → Judges cells bytes work stack j (cleared (sizesOf cells) work) (zeroed stack)

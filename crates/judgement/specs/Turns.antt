@@ -29,7 +29,7 @@ weighed i len flags ending =
     (Fault (Wrong i ending))
 
 -- entries over t terminals stand from an offset on
-pub record Standing (t : ℕ) (bytes : List ℕ) (first count : ℕ) : Type 0 where
+pub record EntriesStanding (t : ℕ) (bytes : List ℕ) (first count : ℕ) : Type 0 where
   pub es : List Entry
   pub end : ℕ
   pub ahead : entriesAt t bytes count first ≡ entries es end
@@ -43,6 +43,6 @@ abbrev pub courseAt : Tables → ℕ → List ℕ → ℕ → ℕ → Course
 courseAt B t bytes first count = courseOf B bytes (entriesAt t bytes count first)
 
 -- .. and what is known of it after all of them
-abbrev pub Passed : Course → List ℕ → Faults → Type 0
-Passed c flags (First j) = c ≡ fault j
-Passed c flags None = (states : List ℕ) × (c ≡ clean states) × Marks flags states
+abbrev pub EntriesPassed : Course → List ℕ → Faults → Type 0
+EntriesPassed c flags (First j) = c ≡ fault j
+EntriesPassed c flags None = (states : List ℕ) × (c ≡ clean states) × Marks flags states

@@ -16,12 +16,12 @@ use Rattle.machine.specs.declared.Ending.{Ending}
 use Rattle.lists.specs.Entry.{sentence}
 use Rattle.lists.specs.EntryLaws.{Spelled, entry-spelled, entry-wider}
 use Rattle.lists.specs.List.{entries, entriesAt, nextAt}
-use Rattle.lists.specs.ListLaws.{Front, entries-front, entries-none}
+use Rattle.lists.specs.ListLaws.{EntryFront, entries-front, entries-none}
 use Rattle.lists.specs.declared.Entry.{Entry}
 use Rattle.lists.specs.declared.Next.the-variants.{Found as Given, None as Nothing}
 use Rattle.lists.specs.declared.Rest.{Rest}
 use Rattle.judgement.specs.Judgement.{runOf, isRight, stateOf, among, Course, fault, clean, entered, course}
-use Rattle.judgement.specs.Turns.{Marks, weighed, Standing, courseAt}
+use Rattle.judgement.specs.Turns.{Marks, weighed, EntriesStanding, courseAt}
 use Rattle.judgement.specs.declared.Judgement.{Judgement}
 use Rattle.judgement.specs.declared.Judgement.the-variants.{Wrong, Repeat}
 use Rattle.judgement.specs.declared.Verdict.{Verdict}
@@ -77,7 +77,7 @@ unfolding nextAt
 next-zero bytes at = refl
 
 module _ (t : ℕ) (bytes : List ℕ) (few : t ≤ 32) (at : ℕ) (es : List Entry) (end : ℕ) where
-  next-first : (k : ℕ) (f : Front t bytes k at es end) → nextAt bytes at (suc k) ≡ Given (f .entry) (record { at = f .next .at; left = k })
+  next-first : (k : ℕ) (f : EntryFront t bytes k at es end) → nextAt bytes at (suc k) ≡ Given (f .entry) (record { at = f .next .at; left = k })
   unfolding nextAt
   next-first k f =
       let wide = entry-wider t bytes at 32 few (f .entry) (f .next) (f .found) in
@@ -116,7 +116,7 @@ pub record Going (B : Tables) (t : ℕ) (bytes : List ℕ) (c : Course) (count i
   pub marks : Marks flags states
   pub number : i + left ≡ count
 
-pub going-none : {B : Tables} {t : ℕ} {bytes : List ℕ} {first count : ℕ} {flags : List ℕ} → Standing t bytes first count → flags ≡ replicate 128 0
+pub going-none : {B : Tables} {t : ℕ} {bytes : List ℕ} {first count : ℕ} {flags : List ℕ} → EntriesStanding t bytes first count → flags ≡ replicate 128 0
     → Going B t bytes (courseAt B t bytes first count) count 0 first count flags
 going-none {flags} s f = record {
   es = s .es;

@@ -2,8 +2,8 @@
 ghost use mathlib.Core.Path.{_≡_};
 ghost use Rattle.book.specs.TablesLaws.{Holds};
 ghost use Rattle.lists.specs.List.{listIn, listing};
-ghost use Rattle.lists.specs.declared.Listing.the-variants.{Refused as Unlisted};
-ghost use Rattle.judgement.specs.Judgement.{admits};
+ghost use Rattle.lists.specs.declared.Listing.the-variants.{Refused as ListingRefused};
+ghost use Rattle.judgement.specs.Judgement.{admitsList};
 use book::Sizes;
 use finder::work_cells;
 use lists::Listing;
@@ -12,7 +12,7 @@ use machine::DEPTH;
 use number::Refusal;
 
 fn too_few() -> Listing
-    ensures { λ r. ⌜ r ≡ Unlisted (record { number = 13; place = 0 }) ⌝ }
+    ensures { λ r. ⌜ r ≡ ListingRefused (record { number = 13; place = 0 }) ⌝ }
 {
     Listing::Refused(Refusal {
         number: 13,
@@ -23,7 +23,7 @@ fn too_few() -> Listing
 // Where the first entry begins and how many there are, or the first refusal.
 pub fn admit(cells: &[u16], d: Sizes, list: &[u8], work: usize, stack: usize) -> Listing
     requires { ⌜ Holds d (now cells) ⌝ }
-    ensures { λ r. ⌜ r ≡ listing (now (list .entry)) (admits work stack d (listIn (now (cells .entry)) (now (list .entry)))) ⌝ }
+    ensures { λ r. ⌜ r ≡ listing (now (list .entry)) (admitsList work stack d (listIn (now (cells .entry)) (now (list .entry)))) ⌝ }
 {
     let found = check_list(cells, list);
     let Listing::Entries(_) = found else {

@@ -7,7 +7,7 @@ ghost use Rattle.book.specs.TablesLaws.{Holds};
 ghost use Rattle.layers.specs.Crossing.{room};
 ghost use Rattle.crossings.specs.Crossings.{Beyond};
 ghost use Rattle.judgement.specs.Coverage.{stateFails, lacksIn, Covered};
-ghost use Rattle.judgement.specs.Judgement.{lowest};
+ghost use Rattle.judgement.specs.Judgement.{lowestState};
 use crate::Judgement;
 use book::Sizes;
 use crossings::crossings;
@@ -48,7 +48,7 @@ fn lacks(cells: &[u16], d: Sizes, dist: &[u16; 4096], flags: &[u8; 128], q: usiz
 
 fn lowest_lacking(cells: &[u16], d: Sizes, dist: &[u16; 4096], flags: &[u8; 128]) -> Judgement
     requires { ⌜ Holds d (now cells) ⌝ }
-    ensures { λ r. ⌜ r ≡ lowest (lacksIn (stateFails (now (cells .entry)) (now (dist .entry)) (d .t)) (now (flags .entry))) (d .s) 0 ⌝ }
+    ensures { λ r. ⌜ r ≡ lowestState (lacksIn (stateFails (now (cells .entry)) (now (dist .entry)) (d .t)) (now (flags .entry))) (d .s) 0 ⌝ }
 {
     let s = d.s;
     let mut q: usize = 0;

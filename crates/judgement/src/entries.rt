@@ -8,7 +8,7 @@ ghost use Rattle.book.specs.TablesLaws.{Holds};
 ghost use Rattle.lists.specs.Entry.{sentence};
 ghost use Rattle.lists.specs.EntryLaws.{Spelled};
 ghost use Rattle.judgement.specs.Judgement.{isRight, stateOf, runOf};
-ghost use Rattle.judgement.specs.Turns.{weighed, Standing, courseAt, Passed};
+ghost use Rattle.judgement.specs.Turns.{weighed, EntriesStanding, courseAt, EntriesPassed};
 use crate::Faults;
 use crate::Judgement;
 use crate::Verdict;
@@ -28,7 +28,7 @@ fn is_right(ending: Ending, len: usize) -> bool
         Ending::Error(stop) => stop.taken == len,
         Ending::Accepted(_) => false,
         Ending::Broken(_) => false,
-        Ending::Passed(_) => false,
+        Ending::EntriesPassed(_) => false,
         Ending::Deep(_) => false,
         Ending::Spinning(_) => false,
     }
@@ -84,10 +84,10 @@ pub fn judge_entries(
     stack: &mut [u16],
 ) -> Faults
     requires { ⌜ Holds d (now cells) ⌝ }
-    requires { ⌜ Standing (d .t) (now list) first count ⌝ }
+    requires { ⌜ EntriesStanding (d .t) (now list) first count ⌝ }
     requires { ⌜ now flags ≡ replicate 128 0 ⌝ }
     requires { ⌜ 1024 ≤ length (now stack) ⌝ }
-    ensures { λ r. ⌜ Passed (courseAt (tablesOf (now (cells .entry))) (d .t) (now (list .entry)) first count) (now (flags .exit)) r ⌝ }
+    ensures { λ r. ⌜ EntriesPassed (courseAt (tablesOf (now (cells .entry))) (d .t) (now (list .entry)) first count) (now (flags .exit)) r ⌝ }
     ensures { λ _. ⌜ drop 1024 (now (stack .exit)) ≡ drop 1024 (now (stack .entry)) ⌝ }
 {
     let mut at = first;

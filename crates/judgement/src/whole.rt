@@ -7,7 +7,7 @@ ghost use Rattle.book.specs.TablesLaws.{Holds};
 ghost use Rattle.layers.specs.Crossing.{room};
 ghost use Rattle.crossings.specs.Crossings.{Beyond};
 ghost use Rattle.judgement.specs.Judgement.{Judged, Judges};
-ghost use Rattle.judgement.specs.Turns.{Standing, courseAt};
+ghost use Rattle.judgement.specs.Turns.{EntriesStanding, courseAt};
 use crate::Faults;
 use crate::Judgement;
 use crate::admission::admit;
@@ -31,7 +31,7 @@ fn judge_from(
     stack: &mut [u16],
 ) -> Judgement
     requires { ⌜ Holds d (now cells) ⌝ }
-    requires { ⌜ Standing (d .t) (now list) first count ⌝ }
+    requires { ⌜ EntriesStanding (d .t) (now list) first count ⌝ }
     requires { ⌜ room d ≤ length (now work) ⌝ }
     requires { ⌜ 1024 ≤ length (now stack) ⌝ }
     ensures { λ r. ⌜ Judged (tablesOf (now (cells .entry))) (courseAt (tablesOf (now (cells .entry))) (d .t) (now (list .entry)) first count) r ⌝ }

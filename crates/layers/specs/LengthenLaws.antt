@@ -20,7 +20,7 @@ use Rattle.layers.specs.Layer.{entryIn, valueIn, Wanted, Lengthened, Len
 use Rattle.layers.specs.LayerLaws.{TurnedOn}
 use Rattle.layers.specs.Crossing.{crossingRow, claimIn, Quiet}
 use Rattle.layers.specs.CrossingLaws.{terminals-are, states-are}
-use Rattle.layers.specs.Step.{Step, Upto, Level, Relaxed, ByShift, ByGoto, Leaves, LeavesState}
+use Rattle.layers.specs.Step.{TableStep, Upto, Level, Relaxed, ByShift, ByGoto, Leaves, LeavesState}
 use Rattle.layers.specs.StepLaws.{step-none, step-as, step-on, step-from}
 
 module _ (σ : Scale) (d : Sizes) (want : List ℕ) (B : Tables) (claim : Claims) where
@@ -31,25 +31,25 @@ module _ (σ : Scale) (d : Sizes) (want : List ℕ) (B : Tables) (claim : Claims
       (λ g. omega (arith, g .2 .2, plus-far-left σ v (claim q₁ (g .0) b z) h))
       x
 
-  pub step-far : {q₁ b v : ℕ} {L : ℕ → ℕ → ℕ} → unreached σ ≤ v → Step σ (Leaves σ d want B claim q₁ b v) L L
+  pub step-far : {q₁ b v : ℕ} {L : ℕ → ℕ → ℕ} → unreached σ ≤ v → TableStep σ (Leaves σ d want B claim q₁ b v) L L
   step-far {q₁} {b} {v} h = step-none (λ q z w x l u. leaves-far q₁ b v q z w h x u)
 
-  pub step-off : {q₁ : ℕ} (L : ℕ → ℕ → ℕ) {K : ℕ → ℕ → ℕ} → ((b : ℕ) → L q₁ b ≡ unreached σ) → Step σ (LeavesState σ d want B claim L q₁) K K
-  step-off {q₁} L off = step-none (λ q z w (b, h, x) l u. leaves-far q₁ b (L q₁ b) q z w (omega (arith, off b)) x u)
+  pub lengthen-off : {q₁ : ℕ} (L : ℕ → ℕ → ℕ) {K : ℕ → ℕ → ℕ} → ((b : ℕ) → L q₁ b ≡ unreached σ) → TableStep σ (LeavesState σ d want B claim L q₁) K K
+  lengthen-off {q₁} L off = step-none (λ q z w (b, h, x) l u. leaves-far q₁ b (L q₁ b) q z w (omega (arith, off b)) x u)
 
 module _ {σ : Scale} {d : Sizes} {cells want : List ℕ} (h : Holds d cells) where
   -- nor where no walk begins
   pub step-unopened : {claim : Claims} {q₁ b : ℕ} (v : ℕ) {L : ℕ → ℕ → ℕ} → Quiet σ (tablesOf cells) claim → ¬ Opens (tablesOf cells) q₁ b → b < d .t
-      → Step σ (Leaves σ d want (tablesOf cells) claim q₁ b v) L L
+      → TableStep σ (Leaves σ d want (tablesOf cells) claim q₁ b v) L L
   step-unopened {claim} {q₁} {b} v k o hb = step-none (λ q z w x l u. ⊎-elim
       (λ (e, hz, ew, on). o (shifts e))
       (λ (X, hX, (g, hz, ew, on)). omega (arith, ew, plus-far-right σ v (claim q₁ X b z) (omega (arith, k .unopened {z = z} o (rw (terminals-are h) hb) (rw (terminals-are h) hz) g))))
       x)
 
   -- a shift lowers the row of its target ..
-  pub step-shift : (q a v : ℕ) {s w : ℕ} (old flags on-values on-flags new : List ℕ) → tablesOf cells .act q a ≡ Shift s → w ≡ plus σ v (shiftCost σ a) → Wanted want s → TurnedOn σ s old flags on-values on-flags
-      → Step σ (Upto (Level s w) (d .t)) (entryIn on-values) (entryIn new) → Step σ (ByShift σ d want (tablesOf cells) q a v) (valueIn σ old flags) (valueIn σ new on-flags)
-  step-shift q a v {s} {w} old flags on-values on-flags new e i u on p = step-from (on .same) (step-as
+  pub lengthen-shift : (q a v : ℕ) {s w : ℕ} (old flags on-values on-flags new : List ℕ) → tablesOf cells .act q a ≡ Shift s → w ≡ plus σ v (shiftCost σ a) → Wanted want s → TurnedOn σ s old flags on-values on-flags
+      → TableStep σ (Upto (Level s w) (d .t)) (entryIn on-values) (entryIn new) → TableStep σ (ByShift σ d want (tablesOf cells) q a v) (valueIn σ old flags) (valueIn σ new on-flags)
+  lengthen-shift q a v {s} {w} old flags on-values on-flags new e i u on p = step-from (on .same) (step-as
       (λ q′ z x (j, hj, (eq, ez, ex)). (rw eq e, rw ez hj, ex ∙ i, rw eq u))
       (λ q′ z x (e′, hz, ex, k). (z, hz, (target q′ e′, refl, ex ∙ sym i)))
       (step-on on-values new on-flags s (on .on) (λ q′ z x (j, hj, eqs). eqs .0) p))
@@ -57,30 +57,30 @@ module _ {σ : Scale} {d : Sizes} {cells want : List ℕ} (h : Holds d cells) wh
       target : (q′ : ℕ) → tablesOf cells .act q a ≡ Shift q′ → q′ ≡ s
       target q′ e′ = cc
 
-  pub step-no-shift : (q a v : ℕ) {L : ℕ → ℕ → ℕ} → ((s : ℕ) → tablesOf cells .act q a ≡ Shift s → ⊥) → Step σ (ByShift σ d want (tablesOf cells) q a v) L L
+  pub step-no-shift : (q a v : ℕ) {L : ℕ → ℕ → ℕ} → ((s : ℕ) → tablesOf cells .act q a ≡ Shift s → ⊥) → TableStep σ (ByShift σ d want (tablesOf cells) q a v) L L
   step-no-shift q a v f = step-none (λ q′ z w x l u. f q′ (x .0))
 
-  pub step-shift-unwanted : (q a v : ℕ) {s : ℕ} {L : ℕ → ℕ → ℕ} → tablesOf cells .act q a ≡ Shift s → getD want s 0 ≡ 0 → Step σ (ByShift σ d want (tablesOf cells) q a v) L L
+  pub step-shift-unwanted : (q a v : ℕ) {s : ℕ} {L : ℕ → ℕ → ℕ} → tablesOf cells .act q a ≡ Shift s → getD want s 0 ≡ 0 → TableStep σ (ByShift σ d want (tablesOf cells) q a v) L L
   step-shift-unwanted q a v {s} e k = step-none (λ q′ z w (f, hz, ew, x) l u. let i : q′ ≡ s = cc in x .on (rw i k))
 
   -- .. and so does a goto, by the row of the crossing table
   pub step-goto : (q a v X : ℕ) {g start : ℕ} (table old flags on-values on-flags new : List ℕ) → tablesOf cells .goto q X ≡ suc g → start ≡ crossingRow d q X a → Wanted want g → TurnedOn σ g old flags on-values on-flags
-      → Step σ (Upto (Relaxed σ g table start v) (d .t)) (entryIn on-values) (entryIn new)
-      → Step σ (ByGoto σ d want (tablesOf cells) (claimIn d table) q a v X) (valueIn σ old flags) (valueIn σ new on-flags)
+      → TableStep σ (Upto (Relaxed σ g table start v) (d .t)) (entryIn on-values) (entryIn new)
+      → TableStep σ (ByGoto σ d want (tablesOf cells) (claimIn d table) q a v X) (valueIn σ old flags) (valueIn σ new on-flags)
   unfolding claimIn
   step-goto q a v X {g} {start} table old flags on-values on-flags new e i u on p = step-from (on .same) (step-as
       (λ q′ z w (j, hj, (eq, ez, ew)). (rw eq e, rw ez hj, rw (ez, ← i) ew, rw eq u))
       (λ q′ z w (e′, hz, ew, k). (z, hz, (omega arith, refl, rw i ew)))
       (step-on on-values new on-flags g (on .on) (λ q′ z w (j, hj, eqs). eqs .0) p))
 
-  pub step-no-goto : (claim : Claims) (q a v X : ℕ) {L : ℕ → ℕ → ℕ} → tablesOf cells .goto q X ≡ 0 → Step σ (ByGoto σ d want (tablesOf cells) claim q a v X) L L
+  pub step-no-goto : (claim : Claims) (q a v X : ℕ) {L : ℕ → ℕ → ℕ} → tablesOf cells .goto q X ≡ 0 → TableStep σ (ByGoto σ d want (tablesOf cells) claim q a v X) L L
   step-no-goto claim q a v X e = step-none (λ q′ z w x l u. omega (arith, x .0))
 
-  pub step-goto-unwanted : (claim : Claims) (q a v X : ℕ) {g : ℕ} {L : ℕ → ℕ → ℕ} → tablesOf cells .goto q X ≡ suc g → getD want g 0 ≡ 0 → Step σ (ByGoto σ d want (tablesOf cells) claim q a v X) L L
+  pub step-goto-unwanted : (claim : Claims) (q a v X : ℕ) {g : ℕ} {L : ℕ → ℕ → ℕ} → tablesOf cells .goto q X ≡ suc g → getD want g 0 ≡ 0 → TableStep σ (ByGoto σ d want (tablesOf cells) claim q a v X) L L
   step-goto-unwanted claim q a v X {g} e k = step-none (λ q′ z w (f, hz, ew, x) l u. let i : q′ ≡ g = omega arith in x .on (rw i k))
 
   -- from every state, over a layer that was unreached everywhere
-  pub lengthened : (claim : Claims) (L : ℕ → ℕ → ℕ) {K L′ : ℕ → ℕ → ℕ} → ((q z : ℕ) → K q z ≡ unreached σ) → Step σ (Upto (LeavesState σ d want (tablesOf cells) claim L) (d .s)) K L′
+  pub lengthened : (claim : Claims) (L : ℕ → ℕ → ℕ) {K L′ : ℕ → ℕ → ℕ} → ((q z : ℕ) → K q z ≡ unreached σ) → TableStep σ (Upto (LeavesState σ d want (tablesOf cells) claim L) (d .s)) K L′
       → LengthenedTo σ want (tablesOf cells) claim L L′
   lengthened claim L {K} {L′} blank s q z hz = record {
     below = λ x l k. below x l k (decLt x (unreached σ));

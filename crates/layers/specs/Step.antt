@@ -14,7 +14,7 @@ use Rattle.layers.specs.Layer.{Wanted}
 
 -- `P q z w` says that w is a candidate for the entry (q, z). Each entry of `new` is the least of what it was and its candidates
 -- below unreached
-pub record Step (σ : Scale) (P : ℕ → ℕ → ℕ → Type 0) (old new : ℕ → ℕ → ℕ) : Type 0 where
+pub record TableStep (σ : Scale) (P : ℕ → ℕ → ℕ → Type 0) (old new : ℕ → ℕ → ℕ) : Type 0 where
   pub fall : (q z : ℕ) → z < 32 → new q z ≤ old q z
   pub below : (q z w : ℕ) → P q z w → z < 32 → w < unreached σ → new q z ≤ w
   pub attained : (q z : ℕ) → z < 32 → (new q z ≡ old q z) ⊎ P q z (new q z)

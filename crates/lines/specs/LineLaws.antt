@@ -12,11 +12,11 @@ use Rattle.walk.specs.Answer.{Outcome, Answer, Unreached as Never, Long as Far,
 use Rattle.walk.specs.AnswerLaws.{answer-one}
 use Rattle.walk.specs.Scale.{plain}
 use Rattle.walk.specs.ShortestLaws.{cost-length}
-use Rattle.finder.specs.Finder.{Answered, found, sentence}
+use Rattle.finder.specs.Finder.{Answered, found, sentenceOf}
 use Rattle.finder.specs.declared.Found.{Found}
 use Rattle.lines.specs.Decimal.{decimal}
 use Rattle.lines.specs.DecimalLaws.{decimal-byte}
-use Rattle.lines.specs.Line.{spaced, line, told, pairLine, Listed}
+use Rattle.lines.specs.Line.{spaced, line, told, pairLine, PairListed}
 use Rattle.lines.specs.Parts.{words, Fitting}
 use Rattle.lines.specs.Put.{Put}
 use Rattle.lines.specs.PutLaws.{put-then}
@@ -28,12 +28,12 @@ two-words a b c d = simp append-assoc
 pub pair-words : (a b : List ℕ) (ws : List (List ℕ)) → (a ++ 32 ∷ b) ++ (spaced ws ++ 10 ∷ []) ≡ line a (b ∷ ws)
 pair-words a b ws = simp append-assoc
 
-outcome-words : (o : Outcome) (buffer : List ℕ) → words (found o) (over (sentence o) buffer) ≡ told o
+outcome-words : (o : Outcome) (buffer : List ℕ) → words (found o) (over (sentenceOf o) buffer) ≡ told o
 outcome-words Never buffer = refl
 outcome-words Far buffer = refl
 outcome-words (Word w) buffer = rw take-append-seam
 
-outcome-fits : (B : Tables) (s z : ℕ) (o : Outcome) (buffer : List ℕ) → Answer plain (λ a. a) B s z o → Fitting (found o) (over (sentence o) buffer)
+outcome-fits : (B : Tables) (s z : ℕ) (o : Outcome) (buffer : List ℕ) → Answer plain (λ a. a) B s z o → Fitting (found o) (over (sentenceOf o) buffer)
 outcome-fits B s z Never buffer a = tt
 outcome-fits B s z Far buffer a = tt
 outcome-fits B s z (Word w) buffer a = (omega (arith, a .1, cost-length w), simp length-append (omega arith))
@@ -46,17 +46,17 @@ module _ {B : Tables} {s z : ℕ} {buffer left : List ℕ} {r : Found} where
   answered-fits a = rw (a .told, a .front) (outcome-fits B s z (a .outcome) buffer (a .right))
 
   pub answered-line : {lent now : List ℕ} {at next : ℕ} → Answered B s z buffer r left
-      → Put ((decimal s ++ 32 ∷ decimal z) ++ (spaced (words r left) ++ 10 ∷ [])) lent at now next → Listed B s z buffer lent at left now next
+      → Put ((decimal s ++ 32 ∷ decimal z) ++ (spaced (words r left) ++ 10 ∷ [])) lent at now next → PairListed B s z buffer lent at left now next
   answered-line {lent} {now} {at} {next} a p =
       let e = pair-words (decimal s) (decimal z) (words r left) ∙ ap (λ (ws : List (List ℕ)). line (decimal s) (decimal z ∷ ws)) (answered-words a) in
       record { outcome = a .outcome; right = a .right; front = a .front; put = subst (λ (l : List ℕ). Put l lent at now next) e p }
 
 -- at most one line is right
-pub line-one : {B : Tables} {s z at next next′ : ℕ} {buffer lent filled filled′ left left′ : List ℕ} → Listed B s z buffer lent at filled left next
-    → Listed B s z buffer lent at filled′ left′ next′ → (filled ≡ filled′) × (left ≡ left′) × (next ≡ next′)
+pub line-one : {B : Tables} {s z at next next′ : ℕ} {buffer lent filled filled′ left left′ : List ℕ} → PairListed B s z buffer lent at filled left next
+    → PairListed B s z buffer lent at filled′ left′ next′ → (filled ≡ filled′) × (left ≡ left′) × (next ≡ next′)
 line-one {B} {s} {z} {at} {buffer = buffer} {lent = lent} x y =
     let same = answer-one plain (λ a. a) B s z (x .outcome) (y .outcome) (x .right) (y .right) in (
-      x .front ∙ ap (λ (o : Outcome). over (sentence o) buffer) same ∙ sym (y .front),
+      x .front ∙ ap (λ (o : Outcome). over (sentenceOf o) buffer) same ∙ sym (y .front),
       x .put .stored ∙ ap (λ (o : Outcome). sets lent at (pairLine s z o)) same ∙ sym (y .put .stored),
       x .put .after ∙ ap (λ (o : Outcome). at + length (pairLine s z o)) same ∙ sym (y .put .after),
     )

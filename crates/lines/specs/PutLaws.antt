@@ -28,16 +28,16 @@ pub put-after : {x : ℕ} {xs lent left : List ℕ} {at next : ℕ} → Put xs (
 put-after {x} {xs} {lent} {left} {at} p = record { stored = rw add-one at (p .stored); after = p .after ∙ omega arith }
 
 -- ---- copying a word, byte by byte
-pub record Copied (word lent : List ℕ) (at : ℕ) (now : List ℕ) (i : ℕ) : Type 0 where
+pub record WordCopied (word lent : List ℕ) (at : ℕ) (now : List ℕ) (i : ℕ) : Type 0 where
   pub size : length now ≡ length lent
   pub same : now ≡ sets lent at (take i word)
 
 module _ {word lent : List ℕ} {at : ℕ} where
-  pub copied-none : Copied word lent at lent 0
-  copied-none = record { size = refl; same = refl }
+  pub word-copied-none : WordCopied word lent at lent 0
+  word-copied-none = record { size = refl; same = refl }
 
-  pub copied-more : {now : List ℕ} {i : ℕ} → Copied word lent at now i → i < length word → Copied word lent at (set now (at + i) (getD word i 0)) (i + 1)
-  copied-more {now} {i} c h =
+  pub word-copied-more : {now : List ℕ} {i : ℕ} → WordCopied word lent at now i → i < length word → WordCopied word lent at (set now (at + i) (getD word i 0)) (i + 1)
+  word-copied-more {now} {i} c h =
       let n : length (take i word) ≡ i = length-take-le i word (omega arith) in
       let step = rw n at (sets-append lent at (take i word) (getD word i 0 ∷ [])) in
       let e : set now (at + i) (getD word i 0) ≡ sets lent at (take i word ++ getD word i 0 ∷ []) = rw (c .same) step in
@@ -46,5 +46,5 @@ module _ {word lent : List ℕ} {at : ℕ} where
         same = rw (add-one, take-suc word i 0) e;
       }
 
-  pub copied-done : {now : List ℕ} {i next : ℕ} → Copied word lent at now i → i ≡ length word → next ≡ at + length word → Put word lent at now next
+  pub copied-done : {now : List ℕ} {i next : ℕ} → WordCopied word lent at now i → i ≡ length word → next ≡ at + length word → Put word lent at now next
   copied-done c e f = record { stored = c .same ∙ rw (e, take-length); after = f }

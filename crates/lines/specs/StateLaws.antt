@@ -17,7 +17,7 @@ use Rattle.walk.specs.AnswerLaws.{answer-one}
 use Rattle.walk.specs.Scale.{plain}
 use Rattle.finder.specs.Failing.{isError}
 use Rattle.finder.specs.FailingLaws.{is-error}
-use Rattle.lines.specs.Line.{pairLine, Listed, actionLine, stateLines, StateListed}
+use Rattle.lines.specs.Line.{pairLine, PairListed, actionLine, stateLines, StateListed}
 use Rattle.lines.specs.Parts.{ActionListed}
 use Rattle.lines.specs.Put.{Put}
 use Rattle.lines.specs.PutLaws.{put-then}
@@ -31,7 +31,7 @@ module _ {B : Tables} {s z : ℕ} {lent : List ℕ} {at : ℕ} where
     put = rw e (record { stored = refl; after = omega arith });
   }
 
-  pub action-line : {buffer filled left : List ℕ} {next : ℕ} → isError (B .act s z) ≡ true → Listed B s z buffer lent at filled left next
+  pub action-line : {buffer filled left : List ℕ} {next : ℕ} → isError (B .act s z) ≡ true → PairListed B s z buffer lent at filled left next
       → ActionListed B s z lent at left next
   action-line e l = record { outcome = l .outcome; right = λ f. l .right; put = rw e (l .put) }
 

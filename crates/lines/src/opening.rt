@@ -1,14 +1,14 @@
 // What is checked before a listing, and the crossing table that serves all its lines.
 ghost use mathlib.Core.Path.{_≡_};
 ghost use Rattle.book.specs.Book.{ofCells, checked};
-ghost use Rattle.lines.specs.Prepare.{admits, Prepared};
+ghost use Rattle.lines.specs.Prepare.{admitsListing, Prepared};
 use book::Checked;
 use crossings::crossings;
 use finder::work_cells;
 use number::Refusal;
 
 fn admit(cells: &[u16], work: usize) -> Checked
-    ensures { λ r. ⌜ r ≡ admits work (checked (ofCells (now (cells .entry)))) ⌝ }
+    ensures { λ r. ⌜ r ≡ admitsListing work (checked (ofCells (now (cells .entry)))) ⌝ }
 {
     let found = book::check(cells);
     let Checked::Valid(d) = found else {

@@ -11,7 +11,7 @@ use Rattle.book.specs.Book.{Row, read, refused, admitted, row}
 use Rattle.book.specs.Range.{unless}
 use Rattle.lists.specs.declared.Entry.{Entry}
 use Rattle.lists.specs.declared.Step.{Step}
-use Rattle.lists.specs.declared.Step.the-variants.{Found, Refused as Faulty}
+use Rattle.lists.specs.declared.Step.the-variants.{Found, Refused as StepRefused}
 
 -- the number of a refusal for v below least, or at the limit or above; 0 for none
 unfoldable pub outside : ℕ → ℕ → ℕ → ℕ → ℕ
@@ -34,18 +34,18 @@ abbrev pub lookaheadFault : ℕ → ℕ → ℕ
 lookaheadFault t = outside 0 t 11
 
 -- 'for each its length, symbols and lookahead', each number by 1, 2, its range, and so '8 before 7'. The lookahead ends the entry
-abbrev pub ended : ℕ → ℕ → Number → Step
-ended start len (Refused r) = Faulty r
-ended start len (Value z next) = Found (record { start = start; len = len; lookahead = z }) next
+abbrev pub entryEnded : ℕ → ℕ → Number → Step
+entryEnded start len (Refused r) = StepRefused r
+entryEnded start len (Value z next) = Found (record { start = start; len = len; lookahead = z }) next
 
 -- the symbols were read
 abbrev pub afterSymbols : ℕ → List ℕ → ℕ → ℕ → Row → Step
-afterSymbols t bytes start len (refused r) = Faulty r
-afterSymbols t bytes start len (read symbols at) = ended start len (admitted (lookaheadFault t) at (numberAt bytes at))
+afterSymbols t bytes start len (refused r) = StepRefused r
+afterSymbols t bytes start len (read symbols at) = entryEnded start len (admitted (lookaheadFault t) at (numberAt bytes at))
 
 -- the length was read
 abbrev pub afterLength : ℕ → List ℕ → Number → Step
-afterLength t bytes (Refused r) = Faulty r
+afterLength t bytes (Refused r) = StepRefused r
 afterLength t bytes (Value len next) = afterSymbols t bytes (next .at) len (symbolRow t bytes (next .at) len)
 
 -- the entry at an offset of the bytes: where its symbols begin, how many, its lookahead, and the offset after it; or the refusal

@@ -17,9 +17,9 @@ use Rattle.number.specs.declared.Refusal.{Refusal}
 use Rattle.book.specs.Book.{Row, read, refused, admitted, row}
 use Rattle.book.specs.BookLaws.{Part, ends-read, ends-refused}
 use Rattle.book.specs.RowLaws.{ends, row-front, row-empty, row-clean}
-use Rattle.lists.specs.Entry.{outside, lengthFault, symbolFault, symbolRow, sentence, entryAt, lookaheadFault, ended, afterSymbols, part}
+use Rattle.lists.specs.Entry.{outside, lengthFault, symbolFault, symbolRow, sentence, entryAt, lookaheadFault, entryEnded, afterSymbols, part}
 use Rattle.lists.specs.declared.Entry.{Entry}
-use Rattle.lists.specs.declared.Step.the-variants.{Found, Refused as Faulty}
+use Rattle.lists.specs.declared.Step.the-variants.{Found, Refused as StepRefused}
 
 -- ---- a part of the bytes, where it runs past their end
 pub part-cut : (bytes : List ℕ) (start len : ℕ) → length bytes - start ≤ len → take (length bytes - start) (drop start bytes) ≡ part bytes start len
@@ -32,11 +32,11 @@ part-none bytes start len h = rw (drop-of-length-le bytes h) (sym (take-all len 
 
 -- ---- after the symbols, of which only the end is kept
 module _ (t : ℕ) (bytes : List ℕ) (start len : ℕ) where
-  pub symbols-stop : (r : Refusal) → ends (symbolRow t bytes start len) ≡ Refused r → Faulty r ≡ afterSymbols t bytes start len (symbolRow t bytes start len)
+  pub symbols-stop : (r : Refusal) → ends (symbolRow t bytes start len) ≡ Refused r → StepRefused r ≡ afterSymbols t bytes start len (symbolRow t bytes start len)
   symbols-stop r e = rw (ends-refused (symbolRow t bytes start len) r e)
 
   pub symbols-on : (v : ℕ) (next : Cursor) → ends (symbolRow t bytes start len) ≡ Value v next
-      → ended start len (admitted (lookaheadFault t) (next .at) (numberAt bytes (next .at))) ≡ afterSymbols t bytes start len (symbolRow t bytes start len)
+      → entryEnded start len (admitted (lookaheadFault t) (next .at) (numberAt bytes (next .at))) ≡ afterSymbols t bytes start len (symbolRow t bytes start len)
   symbols-on v next e = let (vs, f) = ends-read (symbolRow t bytes start len) v next e in rw f
 
 -- ---- ranges
@@ -86,7 +86,7 @@ pub record Parts (t : ℕ) (bytes : List ℕ) (at : ℕ) (e : Entry) (next : Cur
   pub looks : numberAt bytes last ≡ Value (e .lookahead) next
   pub below : e .lookahead < t
 
-faulty-not-found : (r : Refusal) (e : Entry) (next : Cursor) → Faulty r ≡ Found e next → ⊥
+faulty-not-found : (r : Refusal) (e : Entry) (next : Cursor) → StepRefused r ≡ Found e next → ⊥
 faulty-not-found r e next f = let z : _≡_ {A = ℕ} 0 1 = cc in omega arith
 
 module _ (t : ℕ) (bytes : List ℕ) (at : ℕ) where
@@ -96,7 +96,7 @@ module _ (t : ℕ) (bytes : List ℕ) (at : ℕ) where
     where
       by-end : (len : ℕ) (c : Cursor) → admitted lengthFault at (numberAt bytes at) ≡ Value len c → (vs : List ℕ) (last : ℕ)
           → symbolRow t bytes (c .at) len ≡ read vs last → (n : Number) → admitted (lookaheadFault t) last (numberAt bytes last) ≡ n
-          → ended (c .at) len n ≡ Found e next → Parts t bytes at e next
+          → entryEnded (c .at) len n ≡ Found e next → Parts t bytes at e next
       by-end len c g vs last h (Refused r) i j = absurd (faulty-not-found r e next j)
       by-end len c g vs last h (Value z d) i j =
           let (m, o) = admitted-found lengthFault at (numberAt bytes at) len c g in

@@ -13,13 +13,13 @@ use Rattle.book.specs.Tables.{sizesOf}
 use Rattle.lists.specs.Entry.{outside, entryAt}
 use Rattle.lists.specs.declared.Entry.{Entry}
 use Rattle.lists.specs.declared.Step.{Step}
-use Rattle.lists.specs.declared.Step.the-variants.{Found, Refused as Faulty}
+use Rattle.lists.specs.declared.Step.the-variants.{Found, Refused as StepRefused}
 use Rattle.lists.specs.declared.Listing.{Listing}
-use Rattle.lists.specs.declared.Listing.the-variants.{Entries, Refused as Unlisted}
+use Rattle.lists.specs.declared.Listing.the-variants.{Entries, Refused as ListingRefused}
 use Rattle.lists.specs.declared.Next.{Next}
 use Rattle.lists.specs.declared.Next.the-variants.{Found as Given, None}
 use Rattle.lists.specs.declared.Nth.{Nth}
-use Rattle.lists.specs.declared.Nth.the-variants.{Found as One, None as Missing, Refused as Unfound}
+use Rattle.lists.specs.declared.Nth.the-variants.{Found as One, None as Missing, Refused as NthRefused}
 
 -- the entries of a list in order, with the offset after them, or the first refusal
 pub data Listed : Type 0 where
@@ -32,7 +32,7 @@ before e (refused r) = refused r
 
 -- an entry, and the list that goes on after it
 abbrev pub followed : Step → (ℕ → Listed) → Listed
-followed (Faulty r) rest = refused r
+followed (StepRefused r) rest = refused r
 followed (Found e next) rest = before e (rest (next .at))
 
 -- k entries from an offset on
@@ -73,7 +73,7 @@ after (Value v next) = next .at
 
 -- what `check_list` answers: where the first entry begins and how many there are, or the refusal
 abbrev pub listing : List ℕ → Listed → Listing
-listing bytes (refused r) = Unlisted r
+listing bytes (refused r) = ListingRefused r
 listing bytes (entries es at) = Entries (record { at = after (numberAt bytes 0); left = length es })
 
 -- entry k of those that a list has, counted from 0
@@ -84,13 +84,13 @@ entryOf (e ∷ es) (suc k) = entryOf es k
 
 -- what `nth_entry` answers
 abbrev pub nthIn : ℕ → Listed → Nth
-nthIn k (refused r) = Unfound r
+nthIn k (refused r) = NthRefused r
 nthIn k (entries es at) = entryOf es k
 
 -- 'gives its entries one after another and says how many remain; after the last it gives none'. A reader's list is checked, so that
 -- each of its symbols and lookaheads is below 32, the most terminals that a book has
 abbrev pub given : ℕ → Step → Next
-given left (Faulty r) = None
+given left (StepRefused r) = None
 given left (Found e next) = Given e (record { at = next .at; left = left - 1 })
 
 unfoldable pub nextAt : List ℕ → ℕ → ℕ → Next

@@ -5,9 +5,9 @@ use Prim.Native.Nat.{ℕ, suc, _+_, _-_, _≤_, _<_}
 use native.Mathlib.Omega.{arith}
 use Rattle.number.specs.declared.Refusal.{Refusal}
 use Rattle.lists.specs.List.{Listed, entries, refused, listIn, listing, nextAt, entryOf, nthIn}
-use Rattle.lists.specs.ReadingLaws.{Holds, holds-none, holds-next, listed-holds}
+use Rattle.lists.specs.ReadingLaws.{EntriesHeld, holds-none, holds-next, listed-holds}
 use Rattle.lists.specs.declared.Entry.{Entry}
-use Rattle.lists.specs.declared.Listing.the-variants.{Entries, Refused as Unlisted}
+use Rattle.lists.specs.declared.Listing.the-variants.{Entries, Refused as ListingRefused}
 use Rattle.lists.specs.declared.Next.the-variants.{Found as Given, None}
 use Rattle.lists.specs.declared.Nth.{Nth}
 use Rattle.lists.specs.declared.Nth.the-variants.{Found, None as Missing, Refused}
@@ -16,19 +16,19 @@ use Rattle.lists.specs.declared.Rest.{Rest}
 -- what is left to pass: entry k of es is entry k - i of xs, which stand at the offset
 pub record Ahead (bytes : List ℕ) (k i at left : ℕ) (es : List Entry) : Type 0 where
   pub xs : List Entry
-  pub holds : Holds bytes (record { at = at; left = left }) xs
+  pub holds : EntriesHeld bytes (record { at = at; left = left }) xs
   pub same : entryOf es k ≡ entryOf xs (k - i)
 
 -- i entries are passed, whichever the list holds
 pub record Skipped (bytes : List ℕ) (first count k i at left : ℕ) : Type 0 where
-  pub ahead : (es : List Entry) → Holds bytes (record { at = first; left = count }) es → Ahead bytes k i at left es
+  pub ahead : (es : List Entry) → EntriesHeld bytes (record { at = first; left = count }) es → Ahead bytes k i at left es
 
 -- one more of those that stand there
 more-ahead : (bytes : List ℕ) (k i at left : ℕ) (e : Entry) (rest : Rest) → i < k → nextAt bytes at left ≡ Given e rest → (es : List Entry) → Ahead bytes k i at left es
     → Ahead bytes k (i + 1) (rest .at) (rest .left) es
 more-ahead bytes k i at left e rest l f es a = by-entries (a .xs) (a .holds) (a .same)
   where
-    by-entries : (xs : List Entry) → Holds bytes (record { at = at; left = left }) xs → entryOf es k ≡ entryOf xs (k - i) → Ahead bytes k (i + 1) (rest .at) (rest .left) es
+    by-entries : (xs : List Entry) → EntriesHeld bytes (record { at = at; left = left }) xs → entryOf es k ≡ entryOf xs (k - i) → Ahead bytes k (i + 1) (rest .at) (rest .left) es
     by-entries [] h g = absurd (let n = holds-none bytes (record { at = at; left = left }) h in let z : _≡_ {A = ℕ} 0 1 = cc in omega arith)
     by-entries (x ∷ xs) h g =
         let o = holds-next bytes (record { at = at; left = left }) x xs h in
@@ -47,18 +47,18 @@ module _ {bytes : List ℕ} {first count k : ℕ} where
   skipped-more {i} {at} {left} {e} {rest} s l f = record { ahead = λ es h. more-ahead bytes k i at left e rest l f es (s .ahead es h) }
 
   pub skipped-stop : {i at left : ℕ} → Skipped bytes first count k i at left → nextAt bytes at left ≡ None
-      → (es : List Entry) → Holds bytes (record { at = first; left = count }) es → Missing ≡ entryOf es k
+      → (es : List Entry) → EntriesHeld bytes (record { at = first; left = count }) es → Missing ≡ entryOf es k
   skipped-stop {i} {at} {left} s f es h = let a = s .ahead es h in by-entries (a .xs) (a .holds) (a .same)
     where
-      by-entries : (xs : List Entry) → Holds bytes (record { at = at; left = left }) xs → entryOf es k ≡ entryOf xs (k - i) → Missing ≡ entryOf es k
+      by-entries : (xs : List Entry) → EntriesHeld bytes (record { at = at; left = left }) xs → entryOf es k ≡ entryOf xs (k - i) → Missing ≡ entryOf es k
       by-entries [] g e = sym e
       by-entries (x ∷ xs) g e = absurd (let o = holds-next bytes (record { at = at; left = left }) x xs g in let z : _≡_ {A = ℕ} 0 1 = cc (o .gives) in omega arith)
 
   pub skipped-done : {i at left : ℕ} {x : Entry} {rest : Rest} → Skipped bytes first count k i at left → k ≤ i → nextAt bytes at left ≡ Given x rest
-      → (es : List Entry) → Holds bytes (record { at = first; left = count }) es → Found x ≡ entryOf es k
+      → (es : List Entry) → EntriesHeld bytes (record { at = first; left = count }) es → Found x ≡ entryOf es k
   skipped-done {i} {at} {left} {x} {rest} s l f es h = let a = s .ahead es h in by-entries (a .xs) (a .holds) (a .same)
     where
-      by-entries : (xs : List Entry) → Holds bytes (record { at = at; left = left }) xs → entryOf es k ≡ entryOf xs (k - i) → Found x ≡ entryOf es k
+      by-entries : (xs : List Entry) → EntriesHeld bytes (record { at = at; left = left }) xs → entryOf es k ≡ entryOf xs (k - i) → Found x ≡ entryOf es k
       by-entries [] g e = absurd (let n = holds-none bytes (record { at = at; left = left }) g in let z : _≡_ {A = ℕ} 0 1 = cc in omega arith)
       by-entries (y ∷ ys) g e =
           let o = holds-next bytes (record { at = at; left = left }) y ys g in
@@ -67,23 +67,23 @@ module _ {bytes : List ℕ} {first count k : ℕ} where
           sym (rw (z, same) at e)
 
 -- entry k of those that stand from an offset on
-pub record Picked (bytes : List ℕ) (first count k : ℕ) (r : Nth) : Type 0 where
-  pub is : (es : List Entry) → Holds bytes (record { at = first; left = count }) es → r ≡ entryOf es k
+pub record EntryPicked (bytes : List ℕ) (first count k : ℕ) (r : Nth) : Type 0 where
+  pub is : (es : List Entry) → EntriesHeld bytes (record { at = first; left = count }) es → r ≡ entryOf es k
 
 -- ---- against a book
 module _ (cells bytes : List ℕ) (k : ℕ) where
-  pub nth-stop : (r : Refusal) → listing bytes (listIn cells bytes) ≡ Unlisted r → Refused r ≡ nthIn k (listIn cells bytes)
+  pub nth-stop : (r : Refusal) → listing bytes (listIn cells bytes) ≡ ListingRefused r → Refused r ≡ nthIn k (listIn cells bytes)
   nth-stop r e = by-list (listIn cells bytes) e
     where
-      by-list : (l : Listed) → listing bytes l ≡ Unlisted r → Refused r ≡ nthIn k l
+      by-list : (l : Listed) → listing bytes l ≡ ListingRefused r → Refused r ≡ nthIn k l
       by-list (refused q) f = cc
       by-list (entries es end) f = absurd (let z : _≡_ {A = ℕ} 0 1 = cc in omega arith)
 
-  pub nth-on : (rest : Rest) (r : Nth) → listing bytes (listIn cells bytes) ≡ Entries rest → Picked bytes (rest .at) (rest .left) k r → r ≡ nthIn k (listIn cells bytes)
+  pub nth-on : (rest : Rest) (r : Nth) → listing bytes (listIn cells bytes) ≡ Entries rest → EntryPicked bytes (rest .at) (rest .left) k r → r ≡ nthIn k (listIn cells bytes)
   nth-on rest r e p = by-list (listIn cells bytes) refl
     where
       by-list : (l : Listed) → listIn cells bytes ≡ l → r ≡ nthIn k l
-      by-list (refused q) f = absurd (let g : Unlisted q ≡ Entries rest = rw f at e in let z : _≡_ {A = ℕ} 0 1 = cc in omega arith)
+      by-list (refused q) f = absurd (let g : ListingRefused q ≡ Entries rest = rw f at e in let z : _≡_ {A = ℕ} 0 1 = cc in omega arith)
       by-list (entries es end) f =
           let (start, is, holds) = listed-holds bytes es end cells f in
           let same : start ≡ rest = cc in

@@ -25,15 +25,15 @@ use Rattle.lists.specs.RefusalLaws.{refusal-numbered}
 use Rattle.lists.specs.declared.Entry.{Entry}
 use Rattle.lists.specs.declared.Given.{Given}
 use Rattle.lists.specs.declared.Given.the-variants.{Found as One, None as Nothing}
-use Rattle.lists.specs.declared.Listing.the-variants.{Entries, Refused as Unlisted}
+use Rattle.lists.specs.declared.Listing.the-variants.{Entries, Refused as ListingRefused}
 use Rattle.lists.specs.declared.Next.the-variants.{Found, None}
 use Rattle.lists.specs.declared.Reader.{Reader}
 use Rattle.lists.specs.declared.Rest.{Rest}
 use Rattle.lists.specs.declared.Step.{Step}
-use Rattle.lists.specs.declared.Step.the-variants.{Found as Stepped, Refused as Faulty}
+use Rattle.lists.specs.declared.Step.the-variants.{Found as Stepped, Refused as StepRefused}
 
 -- the rest of a list that was checked against a book of t terminals: the entries es stand there, and nothing after
-pub record Holds (bytes : List ℕ) (rest : Rest) (es : List Entry) : Type 0 where
+pub record EntriesHeld (bytes : List ℕ) (rest : Rest) (es : List Entry) : Type 0 where
   pub t : ℕ
   pub few : t ≤ 32
   pub end : ℕ
@@ -42,21 +42,21 @@ pub record Holds (bytes : List ℕ) (rest : Rest) (es : List Entry) : Type 0 whe
 
 module _ (bytes : List ℕ) where
   -- how many remain
-  pub holds-count : (rest : Rest) (es : List Entry) → Holds bytes rest es → rest .left ≡ length es
+  pub holds-count : (rest : Rest) (es : List Entry) → EntriesHeld bytes rest es → rest .left ≡ length es
   holds-count rest es h = sym (entries-count (h .t) bytes (rest .left) (rest .at) es (h .end) (h .ahead))
 
   -- none after the last
-  pub holds-none : (rest : Rest) → Holds bytes rest [] → nextAt bytes (rest .at) (rest .left) ≡ None
+  pub holds-none : (rest : Rest) → EntriesHeld bytes rest [] → nextAt bytes (rest .at) (rest .left) ≡ None
   unfolding nextAt
   holds-none rest h = rw (eq-eqb (rest .left) 0 (holds-count rest [] h))
 
   -- the next, and the rest after it
-  pub record Onward (rest : Rest) (e : Entry) (es : List Entry) : Type 0 where
+  pub record ReaderOnward (rest : Rest) (e : Entry) (es : List Entry) : Type 0 where
     pub more : Rest
     pub gives : nextAt bytes (rest .at) (rest .left) ≡ Found e more
-    pub holds : Holds bytes more es
+    pub holds : EntriesHeld bytes more es
 
-  pub holds-next : (rest : Rest) (e : Entry) (es : List Entry) → Holds bytes rest (e ∷ es) → Onward rest e es
+  pub holds-next : (rest : Rest) (e : Entry) (es : List Entry) → EntriesHeld bytes rest (e ∷ es) → ReaderOnward rest e es
   unfolding nextAt
   holds-next rest e es h =
       let k : rest .left ≡ suc (rest .left - 1) = omega (arith, holds-count rest (e ∷ es) h) in
@@ -101,15 +101,15 @@ module _ (bytes : List ℕ) (es : List Entry) (end : ℕ) where
       by-count (Refused r) f = absurd (refused-not-entries r es end (rw f at e))
       by-count (Value n next) f = by-entries n next f (entriesAt t bytes n (next .at)) refl (rw f at e)
 
-  list-holds : (t : ℕ) → t ≤ 32 → listOf t bytes ≡ entries es end → Holds bytes (record { at = after (numberAt bytes 0); left = length es }) es
+  list-holds : (t : ℕ) → t ≤ 32 → listOf t bytes ≡ entries es end → EntriesHeld bytes (record { at = after (numberAt bytes 0); left = length es }) es
   list-holds t few e = let a = list-ahead t e in record { t = t; few = few; end = end; ahead = a .ahead; closed = a .closed }
 
   pub listed-holds : (cells : List ℕ) → listIn cells bytes ≡ entries es end
-      → (rest : Rest) × (listing bytes (listIn cells bytes) ≡ Entries rest) × Holds bytes rest es
+      → (rest : Rest) × (listing bytes (listIn cells bytes) ≡ Entries rest) × EntriesHeld bytes rest es
   unfolding listIn ofCells
   listed-holds cells e = (record { at = after (numberAt bytes 0); left = length es }, rw e, by-book (ofCells cells) refl e)
     where
-      by-book : (w : Row) → ofCells cells ≡ w → against w bytes ≡ entries es end → Holds bytes (record { at = after (numberAt bytes 0); left = length es }) es
+      by-book : (w : Row) → ofCells cells ≡ w → against w bytes ≡ entries es end → EntriesHeld bytes (record { at = after (numberAt bytes 0); left = length es }) es
       by-book (unread r) f g = absurd (refused-not-entries r es end g)
       by-book (read out next) f g =
           let small = readable (cellAt cells) (length cells) (sizesOf out) (ap checked f) .small in
@@ -127,7 +127,7 @@ module _ (bytes : List ℕ) (at : ℕ) where
   next-fewer left e rest f = go (ℕ-discrete left 0)
     where
       by-step : (s : Step) → ¬ (left ≡ 0) → given left s ≡ Found e rest → rest .left < left
-      by-step (Faulty r) z g = absurd (let i : _≡_ {A = ℕ} 0 1 = cc in omega arith)
+      by-step (StepRefused r) z g = absurd (let i : _≡_ {A = ℕ} 0 1 = cc in omega arith)
       by-step (Stepped x next) z g = let i : left - 1 ≡ rest .left = cc in omega arith
 
       go : Dec (left ≡ 0) → rest .left < left
@@ -164,7 +164,7 @@ reads-on k r q es xs on e n i = record {
   remain = ap (λ (p : Reader). turns k p .left) on ∙ i .remain ∙ sym n;
 }
 
-pub turns-given : (k : ℕ) (r : Reader) (es : List Entry) → Holds (now (r .list)) (rest-of r) es → Reads r es k
+pub turns-given : (k : ℕ) (r : Reader) (es : List Entry) → EntriesHeld (now (r .list)) (rest-of r) es → Reads r es k
 turns-given zero r [] h = record { gives = rw (holds-none (now (r .list)) (rest-of r) h); remain = omega (arith, holds-count (now (r .list)) (rest-of r) [] h) }
 turns-given zero r (e ∷ es) h =
     let o = holds-next (now (r .list)) (rest-of r) e es h in
@@ -175,11 +175,11 @@ turns-given (suc k) r (e ∷ es) h =
     reads-on k r (onto r (o .more)) (e ∷ es) es (rw (o .gives)) refl (omega arith) (turns-given k (onto r (o .more)) es (o .holds))
 
 -- where none is left, none is given, and the reader stays
-pub turns-none : (k : ℕ) (r : Reader) → r .left ≡ 0 → (turnOf (turns k r) .given ≡ Nothing) × (turns k r ≡ r)
-turns-none zero r z = (rw (z, none-left (now (r .list)) (r .at)), refl)
-turns-none (suc k) r z =
+pub reader-turns-none : (k : ℕ) (r : Reader) → r .left ≡ 0 → (turnOf (turns k r) .given ≡ Nothing) × (turns k r ≡ r)
+reader-turns-none zero r z = (rw (z, none-left (now (r .list)) (r .at)), refl)
+reader-turns-none (suc k) r z =
     let stays : moved r ≡ r = rw (ap (nextAt (now (r .list)) (r .at)) z, none-left (now (r .list)) (r .at)) in
-    let (g, s) = turns-none k r z in
+    let (g, s) = reader-turns-none k r z in
     (ap (λ (q : Reader). turnOf (turns k q) .given) stays ∙ g, ap (turns k) stays ∙ s)
 
 -- a turn leaves the refusal as it is
@@ -198,8 +198,8 @@ module _ (cells : List ℕ) (list : RefT (List ℕ)) where
 
   -- of a refused list or book: none for ever, and always the refusal, whose number is not 0
   pub refused-reads : (r : Refusal) → listIn cells (now list) ≡ refused r → (k : ℕ)
-      → (turnOf (turns k (startOf cells list)) .given ≡ Nothing) × (turns k (startOf cells list) ≡ readerOn list (opened (Unlisted r))) × (1 ≤ r .number)
+      → (turnOf (turns k (startOf cells list)) .given ≡ Nothing) × (turns k (startOf cells list) ≡ readerOn list (opened (ListingRefused r))) × (1 ≤ r .number)
   refused-reads r e k =
-      let begun : startOf cells list ≡ readerOn list (opened (Unlisted r)) = rw e in
-      let (given, stays) = turns-none k (readerOn list (opened (Unlisted r))) refl in
+      let begun : startOf cells list ≡ readerOn list (opened (ListingRefused r)) = rw e in
+      let (given, stays) = reader-turns-none k (readerOn list (opened (ListingRefused r))) refl in
       rw begun (given, stays, refusal-numbered cells (now list) r e)

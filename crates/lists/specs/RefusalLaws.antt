@@ -15,11 +15,11 @@ use Rattle.number.specs.declared.Refusal.{Refusal}
 use Rattle.book.specs.Book.{Row, read, refused as unread, before, admitted, followed, row, whole, onward, bookIn, ofCells, cellAt}
 use Rattle.book.specs.Range.{headFault, bodyFault, bodyLength}
 use Rattle.book.specs.Tables.{sizesOf}
-use Rattle.lists.specs.Entry.{lengthFault, symbolFault, symbolRow, lookaheadFault, ended, afterSymbols, afterLength, entryAt}
+use Rattle.lists.specs.Entry.{lengthFault, symbolFault, symbolRow, lookaheadFault, entryEnded, afterSymbols, afterLength, entryAt}
 use Rattle.lists.specs.List.{Listed, entries, refused, before as ahead, followed as onto, entriesAt, countFault, closed, afterCount, listOf, against, listIn}
 use Rattle.lists.specs.declared.Entry.{Entry}
 use Rattle.lists.specs.declared.Step.{Step}
-use Rattle.lists.specs.declared.Step.the-variants.{Found, Refused as Faulty}
+use Rattle.lists.specs.declared.Step.the-variants.{Found, Refused as StepRefused}
 
 -- ---- one number
 abbrev Numbered : Number → Type 0
@@ -106,13 +106,13 @@ cells-numbered cells = by-head (row (cellAt cells) headFault 5 0 0) (row-numbere
 -- ---- an entry
 abbrev StepNumbered : Step → Type 0
 StepNumbered (Found e next) = Unit {0}
-StepNumbered (Faulty r) = 1 ≤ r .number
+StepNumbered (StepRefused r) = 1 ≤ r .number
 
 entry-numbered : (t : ℕ) (bytes : List ℕ) (at : ℕ) → StepNumbered (entryAt t bytes at)
 unfolding entryAt
 entry-numbered t bytes at = by-length (admitted lengthFault at (numberAt bytes at)) (admitted-numbered lengthFault at (numberAt bytes at) (number-numbered bytes at))
   where
-    by-end : (start len : ℕ) (n : Number) → Numbered n → StepNumbered (ended start len n)
+    by-end : (start len : ℕ) (n : Number) → Numbered n → StepNumbered (entryEnded start len n)
     by-end start len (Refused r) p = p
     by-end start len (Value z next) p = tt
 
@@ -139,7 +139,7 @@ entries-numbered t bytes zero at = tt
 entries-numbered t bytes (suc k) at = by-entry (entryAt t bytes at) (entry-numbered t bytes at) (λ next. entries-numbered t bytes k next)
   where
     by-entry : (s : Step) → StepNumbered s → ((next : ℕ) → ListNumbered (entriesAt t bytes k next)) → ListNumbered (onto s (λ next. entriesAt t bytes k next))
-    by-entry (Faulty r) p rest = p
+    by-entry (StepRefused r) p rest = p
     by-entry (Found e next) p rest = ahead-numbered e (entriesAt t bytes k (next .at)) (rest (next .at))
 
 closed-numbered : (end : ℕ) (l : Listed) → ListNumbered l → ListNumbered (closed end l)

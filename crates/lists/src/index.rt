@@ -1,7 +1,7 @@
 // One entry of a list, by its index.
 ghost use mathlib.Core.Path.{_≡_};
 ghost use Rattle.lists.specs.List.{listIn, nthIn};
-ghost use Rattle.lists.specs.NthLaws.{Picked};
+ghost use Rattle.lists.specs.NthLaws.{EntryPicked};
 use crate::Listing;
 use crate::Next;
 use crate::Nth;
@@ -10,7 +10,7 @@ use crate::list::next_at;
 
 // Entry k of those that stand from an offset on.
 fn nth_from(list: &[u8], first: usize, count: usize, k: usize) -> Nth
-    ensures { λ r. ⌜ Picked (now (list .entry)) first count k r ⌝ }
+    ensures { λ r. ⌜ EntryPicked (now (list .entry)) first count k r ⌝ }
 {
     let mut at = first;
     let mut left = count;

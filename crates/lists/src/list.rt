@@ -1,7 +1,7 @@
 // A list of sentences, checked whole, and read entry by entry.
 ghost use mathlib.Core.Path.{_≡_};
 ghost use Rattle.lists.specs.List.{entriesAt, listOf, listIn, listing, nextAt};
-ghost use Rattle.lists.specs.ListLaws.{endOf, closing};
+ghost use Rattle.lists.specs.ListLaws.{endOf, listClosing};
 use crate::Listing;
 use crate::Next;
 use crate::Rest;
@@ -35,7 +35,7 @@ fn entry_row(list: &[u8], t: usize, n: usize, start: usize) -> Number
 
 // The verdict on a list whose entries ended so: nothing may follow.
 fn close(last: Number, first: usize, count: usize, end: usize) -> Listing
-    ensures { λ r. ⌜ r ≡ closing first count end last ⌝ }
+    ensures { λ r. ⌜ r ≡ listClosing first count end last ⌝ }
 {
     match last {
         Number::Refused(r) => Listing::Refused(r),

@@ -15,7 +15,7 @@ use Rattle.number.specs.declared.Refusal.{Refusal}
 use Rattle.book.specs.Book.{ofCells, checked}
 use Rattle.book.specs.Tables.{tablesOf}
 use Rattle.book.specs.declared.Checked.{Checked}
-use Rattle.book.specs.declared.Checked.the-variants.{Valid, Refused as Faulty}
+use Rattle.book.specs.declared.Checked.the-variants.{Valid, Refused as CheckedRefused}
 use Rattle.book.specs.declared.Sizes.{Sizes}
 use Rattle.machine.specs.MachineLaws.{clash}
 use Rattle.machine.specs.Run.{runs, soundPrefix, runAdmits, running}
@@ -61,14 +61,14 @@ sound-most t (a ∷ w) = go (leb 1 a && ltb a t) (sound-most t w)
 
 -- ---- what is admitted: past a test that refuses where a is below b, or where it is at least b
 module _ (a b : ℕ) (r : Refusal) (rest : Checked) {d : Sizes} where
-  pub past-short : cond (ltb a b) (Faulty r) rest ≡ Valid d → (b ≤ a) × (rest ≡ Valid d)
+  pub past-short : cond (ltb a b) (CheckedRefused r) rest ≡ Valid d → (b ≤ a) × (rest ≡ Valid d)
   past-short e = go (decLe b a)
     where
       go : Dec (b ≤ a) → (b ≤ a) × (rest ≡ Valid d)
       go (yes h) = (h, rw (le-ltb a b h) at e)
       go (no h) = let f = rw (lt-ltb a b (omega arith)) at e in absurd (clash cc)
 
-  pub past-beyond : cond (leb b a) (Faulty r) rest ≡ Valid d → (a < b) × (rest ≡ Valid d)
+  pub past-beyond : cond (leb b a) (CheckedRefused r) rest ≡ Valid d → (a < b) × (rest ≡ Valid d)
   past-beyond e = go (decLt a b)
     where
       go : Dec (a < b) → (a < b) × (rest ≡ Valid d)
@@ -84,7 +84,7 @@ pub record RunAdmitted (w : List ℕ) (z room : ℕ) (found : Checked) (d : Size
 
 pub admitted-valid : (w : List ℕ) (z room : ℕ) (found : Checked) (d : Sizes) → runAdmits w z room found ≡ Valid d → RunAdmitted w z room found d
 unfolding runAdmits
-admitted-valid w z room (Faulty r) d e = absurd (clash cc)
+admitted-valid w z room (CheckedRefused r) d e = absurd (clash cc)
 admitted-valid w z room (Valid x) d e =
     let (few, e₁) = past-short 1000 (length w) _ _ e in
     let (terminals, e₂) = past-short (soundPrefix (x .t) w) (length w) _ _ e₁ in
@@ -95,7 +95,7 @@ admitted-valid w z room (Valid x) d e =
 
 -- ---- the call
 module _ (cells w : List ℕ) (z : ℕ) (lent : List ℕ) where
-  pub run-refused : (r : Refusal) → runAdmits w z (length lent) (checked (ofCells cells)) ≡ Faulty r → (Refused r, lent) ≡ running cells w z lent
+  pub run-refused : (r : Refusal) → runAdmits w z (length lent) (checked (ofCells cells)) ≡ CheckedRefused r → (Refused r, lent) ≡ running cells w z lent
   unfolding running
   run-refused r e = rw (running, e)
 

@@ -7,7 +7,7 @@ use lib.ListN.{length, getD, drop, replicate}
 use Rattle.book.specs.Book.{ofCells, checked}
 use Rattle.book.specs.Tables.{Tables, tablesOf}
 use Rattle.book.specs.declared.Checked.{Checked}
-use Rattle.book.specs.declared.Checked.the-variants.{Valid, Refused as Faulty}
+use Rattle.book.specs.declared.Checked.the-variants.{Valid, Refused as CheckedRefused}
 use Rattle.machine.specs.Machine.{Move, accepts, fails, breaks, shifts, reduces, next}
 use Rattle.machine.specs.declared.Stop.{Stop}
 use Rattle.machine.specs.declared.Ending.{Ending}
@@ -76,11 +76,11 @@ soundPrefix T (a ∷ w) = cond (leb 1 a && ltb a T) (suc (soundPrefix T w)) 0
 -- the refusals after the book's, in their order: '8 a sentence has over 1,000 symbols', '7 a symbol is 0, or T or more', '11 lookahead T
 -- or more', '13 work or stack cells too few'; what is left is the sizes
 unfoldable pub runAdmits : List ℕ → ℕ → ℕ → Checked → Checked
-runAdmits w z room (Faulty r) = Faulty r
+runAdmits w z room (CheckedRefused r) = CheckedRefused r
 runAdmits w z room (Valid d) =
-    cond (ltb 1000 (length w)) (Faulty (record { number = 8; place = 0 }))
-    (cond (ltb (soundPrefix (d .t) w) (length w)) (Faulty (record { number = 7; place = soundPrefix (d .t) w }))
-    (cond (leb (d .t) z) (Faulty (record { number = 11; place = 0 })) (cond (ltb room 1024) (Faulty (record { number = 13; place = 0 })) (Valid d))))
+    cond (ltb 1000 (length w)) (CheckedRefused (record { number = 8; place = 0 }))
+    (cond (ltb (soundPrefix (d .t) w) (length w)) (CheckedRefused (record { number = 7; place = soundPrefix (d .t) w }))
+    (cond (leb (d .t) z) (CheckedRefused (record { number = 11; place = 0 })) (cond (ltb room 1024) (CheckedRefused (record { number = 13; place = 0 })) (Valid d))))
 
 -- 'The first 1,024 cells then hold the stack before the step that was not taken, bottom first, then zeros'; later ones keep their values
 abbrev pub stackLeft : List ℕ → List ℕ → List ℕ
@@ -90,4 +90,4 @@ stackLeft st lent = reverse st ++ replicate (1024 - length st) 0 ++ drop 1024 le
 unfoldable pub running : List ℕ → List ℕ → ℕ → List ℕ → Ran × List ℕ
 running cells w z lent =
     elim (runAdmits w z (length lent) (checked (ofCells cells)))
-    [ Faulty r ↦ (Refused r, lent) | Valid d ↦ let (e, st) = runs (tablesOf cells) z w 0 (0 ∷ []) in (Ended e, stackLeft st lent) ]
+    [ CheckedRefused r ↦ (Refused r, lent) | Valid d ↦ let (e, st) = runs (tablesOf cells) z w 0 (0 ∷ []) in (Ended e, stackLeft st lent) ]

@@ -25,17 +25,17 @@ pub data Goes : Move → Type 0 where
   by-reduction : {new : List ℕ} → Goes (reduces new)
 
 -- what the unlimited machine does next where the run of a sentence of n symbols ends
-abbrev pub Next : Move → ℕ → Ending → Type 0
-Next m n (Accepted stop) = m ≡ accepts
-Next m n (Error stop) = m ≡ fails
-Next m n (Broken stop) = m ≡ breaks
-Next m n (Passed stop) = (s : ℕ) × (m ≡ shifts s) × (stop .taken ≡ n)
-Next m n (Deep stop) = Goes m
-Next m n (Spinning stop) = Goes m
+abbrev pub NextMove : Move → ℕ → Ending → Type 0
+NextMove m n (Accepted stop) = m ≡ accepts
+NextMove m n (Error stop) = m ≡ fails
+NextMove m n (Broken stop) = m ≡ breaks
+NextMove m n (Passed stop) = (s : ℕ) × (m ≡ shifts s) × (stop .taken ≡ n)
+NextMove m n (Deep stop) = Goes m
+NextMove m n (Spinning stop) = Goes m
 
 -- ---- the reductions before the symbol a, which u follows
 abbrev After : Tables → ℕ → ℕ → List ℕ → ℕ → List ℕ → Limited 0 → Type 0
-After B a taken u n st₀ (stops e st) = Steps B st₀ (a ∷ u) st (a ∷ u) × (stopOf e ≡ stopped st a taken) × Next (next B st a) n e
+After B a taken u n st₀ (stops e st) = Steps B st₀ (a ∷ u) st (a ∷ u) × (stopOf e ≡ stopped st a taken) × NextMove (next B st a) n e
 After B a taken u n st₀ (toShift s st) = Steps B st₀ (a ∷ u) st (a ∷ u) × (next B st a ≡ shifts s)
 
 module _ (B : Tables) (a taken : ℕ) (u : List ℕ) (n : ℕ) where
@@ -74,12 +74,12 @@ record Ends (B : Tables) (z : ℕ) (v : List ℕ) (k : ℕ) (st₀ : List ℕ) (
   pub run : Steps B st₀ (v ++ (z ∷ [])) (o .1) (drop more v ++ (z ∷ []))
   pub looked : drop more v ++ (z ∷ []) ≡ stopOf (o .0) .symbol ∷ rest
   pub top : stopOf (o .0) .state ≡ getD (o .1) 0 0
-  pub move : Next (next B (o .1) (stopOf (o .0) .symbol)) (k + length v) (o .0)
+  pub move : NextMove (next B (o .1) (stopOf (o .0) .symbol)) (k + length v) (o .0)
 
 module _ (B : Tables) (z k : ℕ) where
   -- it ends where it is
   here : (a : ℕ) (u v st₀ st : List ℕ) (e : Ending) → v ++ (z ∷ []) ≡ a ∷ u → Steps B st₀ (a ∷ u) st (a ∷ u) → stopOf e ≡ stopped st a k
-      → Next (next B st a) (k + length v) e → Ends B z v k st₀ (e, st)
+      → NextMove (next B st a) (k + length v) e → Ends B z v k st₀ (e, st)
   here a u v st₀ st e i r s n = record {
     more = 0;
     rest = u;
@@ -134,7 +134,7 @@ pub record EndsAt (B : Tables) (w : List ℕ) (z : ℕ) (e : Ending) (st : List 
   pub run : Steps B (0 ∷ []) (w ++ (z ∷ [])) st (drop (stopOf e .taken) w ++ (z ∷ []))
   pub looked : drop (stopOf e .taken) w ++ (z ∷ []) ≡ stopOf e .symbol ∷ rest
   pub top : stopOf e .state ≡ getD st 0 0
-  pub move : Next (next B st (stopOf e .symbol)) (length w) e
+  pub move : NextMove (next B st (stopOf e .symbol)) (length w) e
 
 pub run-ends : (B : Tables) (w : List ℕ) (z : ℕ) → EndsAt B w z (runs B z w 0 (0 ∷ []) .0) (runs B z w 0 (0 ∷ []) .1)
 run-ends B w z =

@@ -115,17 +115,17 @@ module _ {lent : List ℕ} {depth : ℕ} where
 
 -- ---- one look
 -- the production of a reduction is one of the book's
-pub reduce-below : {d : Sizes} {cells : List ℕ} → Holds d cells → (q a p : ℕ) → tablesOf cells .act q a ≡ Reduce p → p < d .p
+pub stack-reduce-below : {d : Sizes} {cells : List ℕ} → Holds d cells → (q a p : ℕ) → tablesOf cells .act q a ≡ Reduce p → p < d .p
 unfolding allowed
-reduce-below {d} h q a p e = ltb-true p (d .p) (act-some h q a (Reduce p) e (λ z. clash cc) .2)
+stack-reduce-below {d} h q a p e = ltb-true p (d .p) (act-some h q a (Reduce p) e (λ z. clash cc) .2)
 
-pub left-below : {d : Sizes} {cells : List ℕ} → Holds d cells → (p : ℕ) → p < d .p → tablesOf cells .lhs p < d .n
+pub stack-left-below : {d : Sizes} {cells : List ℕ} → Holds d cells → (p : ℕ) → p < d .p → tablesOf cells .lhs p < d .n
 unfolding tablesOf
-left-below h p l = left-side-below h p l
+stack-left-below h p l = left-side-below h p l
 
-pub shift-below : {d : Sizes} {cells : List ℕ} → Holds d cells → (q a s : ℕ) → tablesOf cells .act q a ≡ Shift s → s < d .s
+pub stack-shift-below : {d : Sizes} {cells : List ℕ} → Holds d cells → (q a s : ℕ) → tablesOf cells .act q a ≡ Shift s → s < d .s
 unfolding tablesOf
-shift-below h q a s e = rw (h .sizes) (in-range h .shifts q a s e .3)
+stack-shift-below h q a s e = rw (h .sizes) (in-range h .shifts q a s e .3)
 
 pub goto-below : {d : Sizes} {cells : List ℕ} → Holds d cells → (q X g : ℕ) → tablesOf cells .goto q X ≡ g → 1 ≤ g → g - 1 < d .s
 goto-below h q X g e l = let i : g ≡ suc (g - 1) = omega arith in goto-some h q X (g - 1) (e ∙ i) .2

@@ -71,7 +71,7 @@ abbrev pub Bytes : List ℕ → Type 0
 Bytes s = (i : ℕ) → getD s i 0 < 256
 
 -- n stands at the front of s, and ends before the offset next
-pub record Stands (at : ℕ) (s : List ℕ) (n next : ℕ) : Type 0 where
+pub record NumberStands (at : ℕ) (s : List ℕ) (n next : ℕ) : Type 0 where
   pub rest : List ℕ
   pub whole : s ≡ written n ++ rest
   pub after : next ≡ at + length (written n)
@@ -87,17 +87,17 @@ refused-not-value r m next e = let z : _≡_ {A = ℕ} 0 1 = cc in omega arith
 
 -- n is read, and its bytes are bs
 stands : (at : ℕ) (bs rest : List ℕ) (n k m next : ℕ) → value n k ≡ value m next → written n ≡ bs → k ≡ at + length bs → n < 65536
-    → Stands at (bs ++ rest) m next
+    → NumberStands at (bs ++ rest) m next
 stands at bs rest n k m next e w f h =
     let (i, j) = value-is n k m next e in
     record { rest = rest; whole = rw (← i, w); after = rw (← i, w, ← j) f; small = rw (← i) h }
 
-third-stands : (at a b : ℕ) (s : List ℕ) (m next : ℕ) → 128 ≤ a → a < 256 → 128 ≤ b → b < 256 → third at a b s ≡ value m next → Stands at (a ∷ b ∷ s) m next
+third-stands : (at a b : ℕ) (s : List ℕ) (m next : ℕ) → 128 ≤ a → a < 256 → 128 ≤ b → b < 256 → third at a b s ≡ value m next → NumberStands at (a ∷ b ∷ s) m next
 unfolding third
 third-stands at a b [] m next ha la hb lb e = absurd (refused-not-value _ m next e)
 third-stands at a b (c ∷ s) m next ha la hb lb e = go (ℕ-discrete c 0) (decLt c 128) (decLt 65535 (a % 128 + 128 * (b % 128) + 16384 * c))
   where
-    go : Dec (c ≡ 0) → Dec (c < 128) → Dec (65535 < a % 128 + 128 * (b % 128) + 16384 * c) → Stands at (a ∷ b ∷ c ∷ s) m next
+    go : Dec (c ≡ 0) → Dec (c < 128) → Dec (65535 < a % 128 + 128 * (b % 128) + 16384 * c) → NumberStands at (a ∷ b ∷ c ∷ s) m next
     go (yes z) d f = absurd (refused-not-value _ m next (rw (eq-eqb c 0 z) at e))
     go (no z) (no d) f = absurd (refused-not-value _ m next (rw (ne-eqb c 0 z, le-leb 128 c (omega arith)) at e))
     go (no z) (yes d) (yes f) = absurd (refused-not-value _ m next (rw (ne-eqb c 0 z, lt-leb 128 c d, lt-ltb 65535 _ f) at e))
@@ -113,12 +113,12 @@ third-stands at a b (c ∷ s) m next ha la hb lb e = go (ℕ-discrete c 0) (decL
         refl
         (omega arith)
 
-second-stands : (at a : ℕ) (s : List ℕ) (m next : ℕ) → 128 ≤ a → a < 256 → Bytes s → second at a s ≡ value m next → Stands at (a ∷ s) m next
+second-stands : (at a : ℕ) (s : List ℕ) (m next : ℕ) → 128 ≤ a → a < 256 → Bytes s → second at a s ≡ value m next → NumberStands at (a ∷ s) m next
 unfolding second
 second-stands at a [] m next ha la bytes e = absurd (refused-not-value _ m next e)
 second-stands at a (b ∷ s) m next ha la bytes e = go (ℕ-discrete b 0) (decLt b 128)
   where
-    go : Dec (b ≡ 0) → Dec (b < 128) → Stands at (a ∷ b ∷ s) m next
+    go : Dec (b ≡ 0) → Dec (b < 128) → NumberStands at (a ∷ b ∷ s) m next
     go (yes z) d = absurd (refused-not-value _ m next (rw (eq-eqb b 0 z) at e))
     go (no z) (no d) = third-stands at a b s m next ha la (omega arith) (bytes 0) (rw (ne-eqb b 0 z, le-ltb b 128 (omega arith)) at e)
     go (no z) (yes d) =
@@ -131,11 +131,11 @@ second-stands at a (b ∷ s) m next ha la bytes e = go (ℕ-discrete b 0) (decLt
         refl
         (omega arith)
 
-pub first-stands : (at : ℕ) (s : List ℕ) (m next : ℕ) → Bytes s → first at s ≡ value m next → Stands at s m next
+pub first-stands : (at : ℕ) (s : List ℕ) (m next : ℕ) → Bytes s → first at s ≡ value m next → NumberStands at s m next
 unfolding first
 first-stands at [] m next bytes e = absurd (refused-not-value _ m next e)
 first-stands at (a ∷ s) m next bytes e = go (decLt a 128)
   where
-    go : Dec (a < 128) → Stands at (a ∷ s) m next
+    go : Dec (a < 128) → NumberStands at (a ∷ s) m next
     go (no d) = second-stands at a s m next (omega arith) (bytes 0) (λ i. bytes (suc i)) (rw (le-ltb a 128 (omega arith)) at e)
     go (yes d) = stands at (a ∷ []) s a (at + 1) m next (rw (lt-ltb a 128 d) at e) (written-one a d) refl (omega arith)

@@ -6,26 +6,26 @@ use lib.ListN.{replicate}
 use Rattle.number.specs.Lent.{over}
 use Rattle.number.specs.declared.Refusal.{Refusal}
 use Rattle.book.specs.declared.Checked.{Checked}
-use Rattle.book.specs.declared.Checked.the-variants.{Valid, Refused as Faulty}
+use Rattle.book.specs.declared.Checked.the-variants.{Valid, Refused as CheckedRefused}
 use Rattle.book.specs.declared.Written.{Written}
-use Rattle.book.specs.declared.Written.the-variants.{Count, Refused as Unwritten}
+use Rattle.book.specs.declared.Written.the-variants.{Count, Refused as WrittenRefused}
 use Rattle.machine.specs.Run.{stopOf}
 use Rattle.machine.specs.declared.Ending.{Ending}
 use Rattle.machine.specs.declared.Ending.the-variants.{Accepted, Error, Broken, Passed, Deep, Spinning}
 use Rattle.machine.specs.declared.Ran.{Ran}
-use Rattle.machine.specs.declared.Ran.the-variants.{Ended, Refused as Unrun}
+use Rattle.machine.specs.declared.Ran.the-variants.{Ended, Refused as RanRefused}
 use Rattle.machine.specs.declared.Stop.{Stop}
 use Rattle.finder.specs.declared.Found.{Found}
-use Rattle.finder.specs.declared.Found.the-variants.{Unreached, Long, Sentence, Refused as Unsought}
+use Rattle.finder.specs.declared.Found.the-variants.{Unreached, Long, Sentence, Refused as FoundRefused}
 use Rattle.finder.specs.Finder.{Finds, Maps, Gathers}
 use Rattle.lists.specs.declared.Listing.{Listing}
-use Rattle.lists.specs.declared.Listing.the-variants.{Entries, Refused as Unlisted}
+use Rattle.lists.specs.declared.Listing.the-variants.{Entries, Refused as ListingRefused}
 use Rattle.lists.specs.declared.Next.{Next}
 use Rattle.lists.specs.declared.Next.the-variants.{Found as Further, None as Past}
 use Rattle.lists.specs.declared.Nth.{Nth}
-use Rattle.lists.specs.declared.Nth.the-variants.{Found as One, None, Refused as Unfound}
+use Rattle.lists.specs.declared.Nth.the-variants.{Found as One, None, Refused as NthRefused}
 use Rattle.judgement.specs.declared.Judgement.{Judgement}
-use Rattle.judgement.specs.declared.Judgement.the-variants.{Wrong, Repeat, Uncovered, Complete, Refused as Unjudged}
+use Rattle.judgement.specs.declared.Judgement.the-variants.{Wrong, Repeat, Uncovered, Complete, Refused as JudgementRefused}
 use Rattle.judgement.specs.Judgement.{Judges}
 
 -- 'Where an answer is an enum, a definition gives this paper's number and values for each of its cases': eight numbers, the kind first
@@ -34,18 +34,18 @@ abbrev pub eight : List ℕ → List ℕ
 eight values = over values (replicate 8 0)
 
 -- kind 0: 'a refusal is a number and a place'
-abbrev pub refusal : Refusal → List ℕ
-refusal r = eight (0 ∷ r .number ∷ r .place ∷ [])
+abbrev pub toldRefusal : Refusal → List ℕ
+toldRefusal r = eight (0 ∷ r .number ∷ r .place ∷ [])
 
 -- how many cells or bytes were written
-abbrev pub written : Written → List ℕ
-written (Unwritten r) = refusal r
-written (Count n) = eight (1 ∷ n ∷ [])
+abbrev pub toldWritten : Written → List ℕ
+toldWritten (WrittenRefused r) = toldRefusal r
+toldWritten (Count n) = eight (1 ∷ n ∷ [])
 
 -- the sizes of a valid book: T, N, S, P
-abbrev pub checked : Checked → List ℕ
-checked (Faulty r) = refusal r
-checked (Valid d) = eight (1 ∷ d .t ∷ d .n ∷ d .s ∷ d .p ∷ [])
+abbrev pub toldChecked : Checked → List ℕ
+toldChecked (CheckedRefused r) = toldRefusal r
+toldChecked (Valid d) = eight (1 ∷ d .t ∷ d .n ∷ d .s ∷ d .p ∷ [])
 
 -- 'It ends as accepted, error, broken, passed, deep or spinning': the kind
 abbrev pub kindOf : Ending → ℕ
@@ -57,67 +57,67 @@ kindOf (Deep stop) = 5
 kindOf (Spinning stop) = 6
 
 -- 'with the top state, the symbol looked at and how many were taken in'
-abbrev pub ended : ℕ → Stop → List ℕ
-ended kind stop = eight (kind ∷ stop .state ∷ stop .symbol ∷ stop .taken ∷ [])
+abbrev pub toldEnded : ℕ → Stop → List ℕ
+toldEnded kind stop = eight (kind ∷ stop .state ∷ stop .symbol ∷ stop .taken ∷ [])
 
-abbrev pub ran : Ran → List ℕ
-ran (Unrun r) = refusal r
-ran (Ended e) = ended (kindOf e) (stopOf e)
+abbrev pub toldRan : Ran → List ℕ
+toldRan (RanRefused r) = toldRefusal r
+toldRan (Ended e) = toldEnded (kindOf e) (stopOf e)
 
 -- 'For one pair the finder answers unreached, long or else a sentence', told by its length
-abbrev pub found : Found → List ℕ
-found (Unsought r) = refusal r
-found Unreached = eight (1 ∷ [])
-found Long = eight (2 ∷ [])
-found (Sentence n) = eight (3 ∷ n ∷ [])
+abbrev pub toldFound : Found → List ℕ
+toldFound (FoundRefused r) = toldRefusal r
+toldFound Unreached = eight (1 ∷ [])
+toldFound Long = eight (2 ∷ [])
+toldFound (Sentence n) = eight (3 ∷ n ∷ [])
 
 -- where the first entry of a list begins, and how many there are
-abbrev pub listed : Listing → List ℕ
-listed (Unlisted r) = refusal r
-listed (Entries rest) = eight (1 ∷ rest .at ∷ rest .left ∷ [])
+abbrev pub toldListed : Listing → List ℕ
+toldListed (ListingRefused r) = toldRefusal r
+toldListed (Entries rest) = eight (1 ∷ rest .at ∷ rest .left ∷ [])
 
 -- an entry: where its symbols begin, how many, its lookahead; 'after the last it gives none'
-abbrev pub entry : Nth → List ℕ
-entry (Unfound r) = refusal r
-entry (One e) = eight (1 ∷ e .start ∷ e .len ∷ e .lookahead ∷ [])
-entry None = eight (2 ∷ [])
+abbrev pub toldEntry : Nth → List ℕ
+toldEntry (NthRefused r) = toldRefusal r
+toldEntry (One e) = eight (1 ∷ e .start ∷ e .len ∷ e .lookahead ∷ [])
+toldEntry None = eight (2 ∷ [])
 
 -- the next entry as above, then the offset after it and 'how many remain'
-abbrev pub further : Next → List ℕ
-further (Further e rest) = eight (1 ∷ e .start ∷ e .len ∷ e .lookahead ∷ rest .at ∷ rest .left ∷ [])
-further Past = eight (2 ∷ [])
+abbrev pub toldNext : Next → List ℕ
+toldNext (Further e rest) = eight (1 ∷ e .start ∷ e .len ∷ e .lookahead ∷ rest .at ∷ rest .left ∷ [])
+toldNext Past = eight (2 ∷ [])
 
 -- 'A wrong entry's judgement carries the ending of its run'
-abbrev pub wrong : ℕ → ℕ → Stop → List ℕ
-wrong i kind stop = eight (4 ∷ i ∷ kind ∷ stop .state ∷ stop .symbol ∷ stop .taken ∷ [])
+abbrev pub toldWrong : ℕ → ℕ → Stop → List ℕ
+toldWrong i kind stop = eight (4 ∷ i ∷ kind ∷ stop .state ∷ stop .symbol ∷ stop .taken ∷ [])
 
-abbrev pub judged : Judgement → List ℕ
-judged (Unjudged r) = refusal r
-judged Complete = eight (1 ∷ [])
-judged (Uncovered s) = eight (2 ∷ s ∷ [])
-judged (Repeat i) = eight (3 ∷ i ∷ [])
-judged (Wrong i e) = wrong i (kindOf e) (stopOf e)
+abbrev pub toldJudged : Judgement → List ℕ
+toldJudged (JudgementRefused r) = toldRefusal r
+toldJudged Complete = eight (1 ∷ [])
+toldJudged (Uncovered s) = eight (2 ∷ s ∷ [])
+toldJudged (Repeat i) = eight (3 ∷ i ∷ [])
+toldJudged (Wrong i e) = toldWrong i (kindOf e) (stopOf e)
 
 -- one pair: an answer that is right, and its numbers
 pub record FindTold (cells : List ℕ) (s z : ℕ) (work buffer answer worked left : List ℕ) : Type 0 where
   pub given : Found
   pub right : Finds cells s z work buffer given worked left
-  pub told : answer ≡ found given
+  pub told : answer ≡ toldFound given
 
 -- the whole map: an answer that is right, and its numbers
 pub record MapTold (cells work lent answer worked left : List ℕ) : Type 0 where
   pub given : Written
   pub right : Maps cells work lent given worked left
-  pub told : answer ≡ written given
+  pub told : answer ≡ toldWritten given
 
 -- the sets: an answer that is right, and its numbers
 pub record SetsTold (cells work masks sizes answer worked masksLeft sizesLeft : List ℕ) : Type 0 where
   pub given : Written
   pub right : Gathers cells work masks sizes given worked masksLeft sizesLeft
-  pub told : answer ≡ written given
+  pub told : answer ≡ toldWritten given
 
 -- the judgement: an answer that is right, and its numbers
 pub record JudgeTold (cells bytes work stack answer worked stackLeft : List ℕ) : Type 0 where
   pub given : Judgement
   pub right : Judges cells bytes work stack given worked stackLeft
-  pub told : answer ≡ judged given
+  pub told : answer ≡ toldJudged given

@@ -1,13 +1,13 @@
 // The table book: read, checked, written.
 ghost use mathlib.Core.Path.{_≡_};
-ghost use Rattle.book.specs.Book.{ofCells, checked as answered, reading, writing};
-ghost use Rattle.purlquartz.specs.Told.{written, checked};
+ghost use Rattle.book.specs.Book.{ofCells, toldChecked as answered, reading, writing};
+ghost use Rattle.purlquartz.specs.Told.{toldWritten, toldChecked};
 use crate::told::tell_checked;
 use crate::told::tell_written;
 
 #[no_mangle]
 pub extern "C" fn purlquartz_read(bytes: &[u8], cells: &mut [u16], answer: &mut [u64; 8])
-    ensures { λ _. ⌜ now (answer .exit) ≡ written (reading (now (bytes .entry)) (now (cells .entry)) .0) ⌝ }
+    ensures { λ _. ⌜ now (answer .exit) ≡ toldWritten (reading (now (bytes .entry)) (now (cells .entry)) .0) ⌝ }
     ensures { λ _. ⌜ now (cells .exit) ≡ reading (now (bytes .entry)) (now (cells .entry)) .1 ⌝ }
 {
     *answer = tell_written(book::read(bytes, cells));
@@ -15,14 +15,14 @@ pub extern "C" fn purlquartz_read(bytes: &[u8], cells: &mut [u16], answer: &mut 
 
 #[no_mangle]
 pub extern "C" fn purlquartz_check(cells: &[u16], answer: &mut [u64; 8])
-    ensures { λ _. ⌜ now (answer .exit) ≡ checked (answered (ofCells (now (cells .entry)))) ⌝ }
+    ensures { λ _. ⌜ now (answer .exit) ≡ toldChecked (answered (ofCells (now (cells .entry)))) ⌝ }
 {
     *answer = tell_checked(book::check(cells));
 }
 
 #[no_mangle]
 pub extern "C" fn purlquartz_write(cells: &[u16], bytes: &mut [u8], answer: &mut [u64; 8])
-    ensures { λ _. ⌜ now (answer .exit) ≡ written (writing (now (cells .entry)) (now (bytes .entry)) .0) ⌝ }
+    ensures { λ _. ⌜ now (answer .exit) ≡ toldWritten (writing (now (cells .entry)) (now (bytes .entry)) .0) ⌝ }
     ensures { λ _. ⌜ now (bytes .exit) ≡ writing (now (cells .entry)) (now (bytes .entry)) .1 ⌝ }
 {
     *answer = tell_written(book::write(cells, bytes));

@@ -1,7 +1,7 @@
 // Lists of sentences: checked, their entries by index and one after another, and judged.
 ghost use mathlib.Core.Path.{_≡_};
 ghost use Rattle.lists.specs.List.{listIn, listing, nextAt, nthIn};
-ghost use Rattle.purlquartz.specs.Told.{listed, entry, further, JudgeTold};
+ghost use Rattle.purlquartz.specs.Told.{toldListed, toldEntry, toldNext, JudgeTold};
 use crate::told::tell_entry;
 use crate::told::tell_judged;
 use crate::told::tell_listed;
@@ -9,14 +9,14 @@ use crate::told::tell_next;
 
 #[no_mangle]
 pub extern "C" fn purlquartz_check_list(cells: &[u16], list: &[u8], answer: &mut [u64; 8])
-    ensures { λ _. ⌜ now (answer .exit) ≡ listed (listing (now (list .entry)) (listIn (now (cells .entry)) (now (list .entry)))) ⌝ }
+    ensures { λ _. ⌜ now (answer .exit) ≡ toldListed (listing (now (list .entry)) (listIn (now (cells .entry)) (now (list .entry)))) ⌝ }
 {
     *answer = tell_listed(lists::check_list(cells, list));
 }
 
 #[no_mangle]
 pub extern "C" fn purlquartz_entry(cells: &[u16], list: &[u8], index: usize, answer: &mut [u64; 8])
-    ensures { λ _. ⌜ now (answer .exit) ≡ entry (nthIn index (listIn (now (cells .entry)) (now (list .entry)))) ⌝ }
+    ensures { λ _. ⌜ now (answer .exit) ≡ toldEntry (nthIn index (listIn (now (cells .entry)) (now (list .entry)))) ⌝ }
 {
     *answer = tell_entry(lists::nth_entry(cells, list, index));
 }
@@ -28,7 +28,7 @@ pub extern "C" fn purlquartz_next_entry(
     left: usize,
     answer: &mut [u64; 8],
 )
-    ensures { λ _. ⌜ now (answer .exit) ≡ further (nextAt (now (list .entry)) offset left) ⌝ }
+    ensures { λ _. ⌜ now (answer .exit) ≡ toldNext (nextAt (now (list .entry)) offset left) ⌝ }
 {
     *answer = tell_next(lists::next_at(list, offset, left));
 }

@@ -1,7 +1,7 @@
 // A run of the machine.
 ghost use mathlib.Core.Path.{_≡_};
 ghost use Rattle.machine.specs.Run.{running};
-ghost use Rattle.purlquartz.specs.Told.{ran};
+ghost use Rattle.purlquartz.specs.Told.{toldRan};
 use crate::told::tell_ran;
 
 #[no_mangle]
@@ -12,7 +12,7 @@ pub extern "C" fn purlquartz_run(
     stack: &mut [u16],
     answer: &mut [u64; 8],
 )
-    ensures { λ _. ⌜ now (answer .exit) ≡ ran (running (now (cells .entry)) (now (sentence .entry)) lookahead (now (stack .entry)) .0) ⌝ }
+    ensures { λ _. ⌜ now (answer .exit) ≡ toldRan (running (now (cells .entry)) (now (sentence .entry)) lookahead (now (stack .entry)) .0) ⌝ }
     ensures { λ _. ⌜ now (stack .exit) ≡ running (now (cells .entry)) (now (sentence .entry)) lookahead (now (stack .entry)) .1 ⌝ }
 {
     *answer = tell_ran(machine::run(cells, sentence, lookahead, stack));

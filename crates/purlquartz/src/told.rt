@@ -1,7 +1,7 @@
 // The answers as eight numbers.
 ghost use mathlib.Core.List.{[], _∷_};
 ghost use mathlib.Core.Path.{_≡_};
-ghost use Rattle.purlquartz.specs.Told.{eight, refusal, written, checked, kindOf, ended, ran, found, listed, entry, further, wrong, judged};
+ghost use Rattle.purlquartz.specs.Told.{eight, toldRefusal, toldWritten, toldChecked, kindOf, toldEnded, toldRan, toldFound, toldListed, toldEntry, toldNext, toldWrong, toldJudged};
 use book::Checked;
 use book::Written;
 use finder::Found;
@@ -23,13 +23,13 @@ fn few(kind: u64, a: u64, b: u64, c: u64) -> [u64; 8]
 }
 
 fn tell_refusal(r: Refusal) -> [u64; 8]
-    ensures { λ n. ⌜ n ≡ refusal r ⌝ }
+    ensures { λ n. ⌜ n ≡ toldRefusal r ⌝ }
 {
     few(0, r.number as u64, r.place as u64, 0)
 }
 
 pub fn tell_written(w: Written) -> [u64; 8]
-    ensures { λ n. ⌜ n ≡ written w ⌝ }
+    ensures { λ n. ⌜ n ≡ toldWritten w ⌝ }
 {
     match w {
         Written::Refused(r) => tell_refusal(r),
@@ -38,7 +38,7 @@ pub fn tell_written(w: Written) -> [u64; 8]
 }
 
 pub fn tell_checked(c: Checked) -> [u64; 8]
-    ensures { λ n. ⌜ n ≡ checked c ⌝ }
+    ensures { λ n. ⌜ n ≡ toldChecked c ⌝ }
 {
     match c {
         Checked::Refused(r) => tell_refusal(r),
@@ -60,7 +60,7 @@ fn kind_of(e: Ending) -> u64
 }
 
 fn tell_ended(kind: u64, stop: Stop) -> [u64; 8]
-    ensures { λ n. ⌜ n ≡ ended kind stop ⌝ }
+    ensures { λ n. ⌜ n ≡ toldEnded kind stop ⌝ }
 {
     few(
         kind,
@@ -71,16 +71,16 @@ fn tell_ended(kind: u64, stop: Stop) -> [u64; 8]
 }
 
 pub fn tell_ran(r: Ran) -> [u64; 8]
-    ensures { λ n. ⌜ n ≡ ran r ⌝ }
+    ensures { λ n. ⌜ n ≡ toldRan r ⌝ }
 {
     match r {
-        Ran::Refused(refusal) => tell_refusal(refusal),
+        Ran::Refused(toldRefusal) => tell_refusal(toldRefusal),
         Ran::Ended(e) => tell_ended(kind_of(e), stop_of(e)),
     }
 }
 
 pub fn tell_found(f: Found) -> [u64; 8]
-    ensures { λ n. ⌜ n ≡ found f ⌝ }
+    ensures { λ n. ⌜ n ≡ toldFound f ⌝ }
 {
     match f {
         Found::Refused(r) => tell_refusal(r),
@@ -91,7 +91,7 @@ pub fn tell_found(f: Found) -> [u64; 8]
 }
 
 pub fn tell_listed(l: Listing) -> [u64; 8]
-    ensures { λ n. ⌜ n ≡ listed l ⌝ }
+    ensures { λ n. ⌜ n ≡ toldListed l ⌝ }
 {
     match l {
         Listing::Refused(r) => tell_refusal(r),
@@ -100,7 +100,7 @@ pub fn tell_listed(l: Listing) -> [u64; 8]
 }
 
 pub fn tell_entry(e: Nth) -> [u64; 8]
-    ensures { λ n. ⌜ n ≡ entry e ⌝ }
+    ensures { λ n. ⌜ n ≡ toldEntry e ⌝ }
 {
     match e {
         Nth::Refused(r) => tell_refusal(r),
@@ -110,7 +110,7 @@ pub fn tell_entry(e: Nth) -> [u64; 8]
 }
 
 pub fn tell_next(n: Next) -> [u64; 8]
-    ensures { λ r. ⌜ r ≡ further n ⌝ }
+    ensures { λ r. ⌜ r ≡ toldNext n ⌝ }
 {
     match n {
         Next::Found(e, rest) => [
@@ -128,7 +128,7 @@ pub fn tell_next(n: Next) -> [u64; 8]
 }
 
 fn tell_wrong(i: usize, kind: u64, stop: Stop) -> [u64; 8]
-    ensures { λ n. ⌜ n ≡ wrong i kind stop ⌝ }
+    ensures { λ n. ⌜ n ≡ toldWrong i kind stop ⌝ }
 {
     [
         4,
@@ -143,7 +143,7 @@ fn tell_wrong(i: usize, kind: u64, stop: Stop) -> [u64; 8]
 }
 
 pub fn tell_judged(j: Judgement) -> [u64; 8]
-    ensures { λ n. ⌜ n ≡ judged j ⌝ }
+    ensures { λ n. ⌜ n ≡ toldJudged j ⌝ }
 {
     match j {
         Judgement::Refused(r) => tell_refusal(r),

@@ -30,7 +30,7 @@ use Rattle.walk.specs.Order.{Before, differs, agrees}
 use Rattle.walk.specs.Answer.{Unreached, Long, Sentence, Answer}
 use Rattle.walk.specs.Shortest.{Shorter, Shortest}
 use Rattle.walk.specs.ShortestLaws.{answer-shortest}
-use Rattle.walk.specs.Stars.{Line, number, pair, bracket, double, stars, Holds, All}
+use Rattle.walk.specs.Stars.{Line, number, pair, bracket, double, stars, LineHolds, All}
 
 both : (a b : Bool) → (a && b) ≡ true → (a ≡ true) × (b ≡ true)
 both true b e = (refl, e)
@@ -296,7 +296,7 @@ right? (pair cells s z Unreached) = unreached? (tablesOf cells) s z
 right? (pair cells s z Long) = false
 right? (pair cells s z (Sentence w)) = sentence? (tablesOf cells) s z w
 
-right-holds : (l : Line) → right? l ≡ true → Holds l
+right-holds : (l : Line) → right? l ≡ true → LineHolds l
 unfolding right?
 right-holds (number bytes r) e = same (numberAt bytes 0) r e
 right-holds (pair cells s z Unreached) e = unreached-answer cells s z e

@@ -4,13 +4,13 @@ use native.Mathlib.Omega.{arith}
 use borrow.Author.Count.{below-none, below-more}
 use Rattle.book.specs.Tables.{tablesOf}
 use Rattle.layers.specs.Crossing.{claimIn}
-use Rattle.advance.specs.Nearest.{Leads}
+use Rattle.advance.specs.Nearest.{LeadsTo}
 use borrow.Author.Needs.{needs}
 use Rattle.advance.proofs.distance.toward.Statement.{statement}
 use Rattle.advance.proofs.distance.toward.Tie as tie
 
 abbrev Inv-loop : tie.InvT-loop
-Inv-loop cells d table x to q m n v₀ v = (v ≤ n) × ((k : ℕ) → k < v → ¬ Leads (tablesOf cells) (claimIn d table) x to q m k)
+Inv-loop cells d table x to q m n v₀ v = (v ≤ n) × ((k : ℕ) → k < v → ¬ LeadsTo (tablesOf cells) (claimIn d table) x to q m k)
 
 abbrev μ-loop : tie.MeasureT-loop
 μ-loop cells d table x to q m n v₀ v = n - v

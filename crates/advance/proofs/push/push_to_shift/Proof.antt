@@ -7,14 +7,14 @@ use Rattle.book.specs.Tables.{tablesOf}
 use Rattle.book.specs.TablesLaws.{in-range}
 use Rattle.layers.specs.CrossingLaws.{terminals-are, states-are}
 use Rattle.advance.specs.NearestLaws.{near-low}
-use Rattle.advance.specs.Push.{Pushed}
+use Rattle.advance.specs.Push.{StatesPushed}
 use Rattle.advance.specs.PushLaws.{pushed-none, pushed-more, pushed-done}
 use borrow.Author.Needs.{needs}
 use Rattle.advance.proofs.push.push_to_shift.Statement.{statement}
 use Rattle.advance.proofs.push.push_to_shift.Tie as tie
 
 abbrev Inv-loop : tie.InvT-loop
-Inv-loop cells d table to x stack₀ depth top₀ g₀ stack top g = Pushed (tablesOf cells) x to depth stack₀ top g stack
+Inv-loop cells d table to x stack₀ depth top₀ g₀ stack top g = StatesPushed (tablesOf cells) x to depth stack₀ top g stack
 
 abbrev μ-loop : tie.MeasureT-loop
 μ-loop cells d table to x stack₀ depth top₀ g₀ stack top g = getD to g 0

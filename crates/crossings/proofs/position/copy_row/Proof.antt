@@ -4,13 +4,13 @@ use native.Mathlib.Omega.{arith}
 use mathlib.Core.Path.{refl}
 use native.Mathlib.Nat.{le-antisymm}
 use Prim.Native.Nat.{_-_, _≤_}
-use Rattle.crossings.specs.Position.{Copied}
-use Rattle.crossings.specs.PositionLaws.{copied-more}
+use Rattle.crossings.specs.Position.{RowCopied}
+use Rattle.crossings.specs.PositionLaws.{row-copied-more}
 use Rattle.crossings.proofs.position.copy_row.Statement.{statement}
 use Rattle.crossings.proofs.position.copy_row.Tie as tie
 
 abbrev Inv-loop : tie.InvT-loop
-Inv-loop positions n wanted₀ row q₀ wanted q = (q ≤ 128) × Copied positions n q wanted
+Inv-loop positions n wanted₀ row q₀ wanted q = (q ≤ 128) × RowCopied positions n q wanted
 
 abbrev μ-loop : tie.MeasureT-loop
 μ-loop positions n wanted₀ row q₀ wanted q = 128 - q
@@ -22,7 +22,7 @@ element-write-wanted : tie.Need-element-write-wanted Inv-loop μ-loop
 element-write-wanted c = omega (arith, c .before .before .loop .inv .1 .size)
 
 loop-again : tie.Need-loop-again Inv-loop μ-loop
-loop-again c = (omega arith, copied-more (c .before .loop-test .taken) refl (c .before .before .loop .inv .1))
+loop-again c = (omega arith, row-copied-more (c .before .loop-test .taken) refl (c .before .before .loop .inv .1))
 
 returns : tie.Need-returns Inv-loop μ-loop
 returns c = rw (le-antisymm (c .before .loop .inv .0) (c .loop-test .left)) at (c .before .loop .inv .1)

@@ -3,14 +3,14 @@ use native.Mathlib.Omega.{arith}
 use Prim.Native.Nat.{_-_, _≤_}
 use native.Mathlib.Nat.{le-antisymm}
 use Rattle.book.specs.Tables.{tablesOf}
-use Rattle.crossings.specs.Pass.{Longest}
-use Rattle.crossings.specs.CrossingsLaws.{longest-more}
+use Rattle.crossings.specs.Pass.{LongestFrom}
+use Rattle.crossings.specs.CrossingsLaws.{longest-from-more}
 use borrow.Author.Needs.{needs}
 use Rattle.crossings.proofs.production.longest.Statement.{statement}
 use Rattle.crossings.proofs.production.longest.Tie as tie
 
 abbrev Inv-loop : tie.InvT-loop
-Inv-loop cells d q n r₀ p₀ r p = (p ≤ n) × Longest (tablesOf cells) q p r
+Inv-loop cells d q n r₀ p₀ r p = (p ≤ n) × LongestFrom (tablesOf cells) q p r
 
 abbrev μ-loop : tie.MeasureT-loop
 μ-loop cells d q n r₀ p₀ r p = n - p
@@ -19,7 +19,7 @@ loop-holds : tie.Need-loop-holds Inv-loop μ-loop
 loop-holds c = (omega arith, record { bound = λ p g h e. absurd (omega arith); most = omega arith })
 
 loop-again : tie.Need-loop-again Inv-loop μ-loop
-loop-again c = (omega arith, longest-more (c .before .before .loop .inv .1) (c .longer .ensures))
+loop-again c = (omega arith, longest-from-more (c .before .before .loop .inv .1) (c .longer .ensures))
 
 returns : tie.Need-returns Inv-loop μ-loop
 returns c = rw (le-antisymm (c .before .loop .inv .0) (c .loop-test .left)) at (c .before .loop .inv .1)

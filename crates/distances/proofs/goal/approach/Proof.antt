@@ -4,17 +4,17 @@ use borrow.Author.Tests.{not-true}
 use Prim.Native.Nat.{_<_}
 use native.Mathlib.Nat.{le-trans}
 use Rattle.layers.specs.CrossingLaws.{terminals-are, terminal}
-use Rattle.distances.specs.PassLaws.{pass-idle, pass-store}
+use Rattle.distances.specs.PassLaws.{distance-pass-idle, pass-store}
 use Rattle.distances.specs.GoalLaws.{nearest, nearest-unopened, sooner-attained, marked-store}
 use borrow.Author.Needs.{needs}
 use Rattle.distances.proofs.goal.approach.Statement.{statement}
 use Rattle.distances.proofs.goal.approach.Tie as tie
 
 returns : tie.Need-returns
-returns c = let p = c .before .before .before .before .pre in (pass-idle (p .1 .1 .0) (nearest-unopened (p .0 .holds) _ (p .0 .quiet) (c .before .opens .ensures (not-true _ (c .if1 .taken))) (terminal (p .0 .holds) (p .1 .0 .1)) (p .1 .1 .0)), p .1 .1 .1)
+returns c = let p = c .before .before .before .before .pre in (distance-pass-idle (p .1 .1 .0) (nearest-unopened (p .0 .holds) _ (p .0 .quiet) (c .before .opens .ensures (not-true _ (c .if1 .taken))) (terminal (p .0 .holds) (p .1 .0 .1)) (p .1 .1 .0)), p .1 .1 .1)
 
 returns-2 : tie.Need-returns-2
-returns-2 c = let p = c .before .before .before .before .before .before .before .before .pre in let h = terminal (p .0 .holds) (p .1 .0 .1) in (pass-idle (p .1 .1 .0) (nearest (p .0 .holds) _ h (c .before .toward .ensures) (le-trans (p .1 .1 .0 .most _ _ h) (c .if2 .taken))), p .1 .1 .1)
+returns-2 c = let p = c .before .before .before .before .before .before .before .before .pre in let h = terminal (p .0 .holds) (p .1 .0 .1) in (distance-pass-idle (p .1 .1 .0) (nearest (p .0 .holds) _ h (c .before .toward .ensures) (le-trans (p .1 .1 .0 .most _ _ h) (c .if2 .taken))), p .1 .1 .1)
 
 returns-3 : tie.Need-returns-3
 returns-3 c =

@@ -6,13 +6,13 @@ use Prim.Native.Nat.{_-_, _≤_}
 use lib.Count.{ones}
 use Rattle.sets.specs.SetLaws.{set-count}
 use Rattle.finder.specs.Reached.{maskIn, sizeIn}
-use Rattle.finder.specs.ReachedLaws.{Stored, stored-none, stored-more}
+use Rattle.finder.specs.ReachedLaws.{SetsStored, stored-none, stored-more}
 use borrow.Author.Needs.{needs}
 use Rattle.finder.proofs.reached.write_sets.Statement.{statement}
 use Rattle.finder.proofs.reached.write_sets.Tie as tie
 
 abbrev Inv-loop : tie.InvT-loop
-Inv-loop dist s t masks₀ sizes₀ q₀ masks sizes q = (q ≤ s) × Stored (maskIn dist t) masks₀ masks q × Stored (sizeIn dist t) sizes₀ sizes q
+Inv-loop dist s t masks₀ sizes₀ q₀ masks sizes q = (q ≤ s) × SetsStored (maskIn dist t) masks₀ masks q × SetsStored (sizeIn dist t) sizes₀ sizes q
 
 abbrev μ-loop : tie.MeasureT-loop
 μ-loop dist s t masks₀ sizes₀ q₀ masks sizes q = s - q

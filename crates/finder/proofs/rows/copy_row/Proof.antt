@@ -1,5 +1,5 @@
 -- `finder::rows::copy_row` meets its contract. Assumes nothing.
-use Rattle.finder.specs.RowsLaws.{Copied, copied-none, copied-more}
+use Rattle.finder.specs.RowsLaws.{EntriesCopied, entries-copied-none, entries-copied-more}
 use native.Mathlib.Omega.{arith}
 use Prim.Native.Nat.{_-_, _≤_}
 use native.Mathlib.Nat.{le-antisymm}
@@ -8,13 +8,13 @@ use Rattle.finder.proofs.rows.copy_row.Statement.{statement}
 use Rattle.finder.proofs.rows.copy_row.Tie as tie
 
 abbrev Inv-loop : tie.InvT-loop
-Inv-loop from start n to₀ at i₀ to i = (i ≤ n) × Copied from start to₀ at to i
+Inv-loop from start n to₀ at i₀ to i = (i ≤ n) × EntriesCopied from start to₀ at to i
 
 abbrev μ-loop : tie.MeasureT-loop
 μ-loop from start n to₀ at i₀ to i = n - i
 
 loop-holds : tie.Need-loop-holds Inv-loop μ-loop
-loop-holds c = (omega arith, copied-none)
+loop-holds c = (omega arith, entries-copied-none)
 
 mul-to-2 : tie.Need-mul-to-2 Inv-loop μ-loop
 mul-to-2 c = omega (arith, c .before .before .loop .inv .1 .size)
@@ -23,7 +23,7 @@ slice-write-to : tie.Need-slice-write-to Inv-loop μ-loop
 slice-write-to c = omega (arith, c .before .before .loop .inv .1 .size)
 
 loop-again : tie.Need-loop-again Inv-loop μ-loop
-loop-again c = (omega arith, copied-more (c .before .before .loop .inv .1) (omega (arith, c .before .before .before .pre)) (omega (arith, c .before .before .before .pre)))
+loop-again c = (omega arith, entries-copied-more (c .before .before .loop .inv .1) (omega (arith, c .before .before .before .pre)) (omega (arith, c .before .before .before .pre)))
 
 same-length : tie.Need-same-length Inv-loop μ-loop
 same-length c = c .before .loop .inv .1 .size

@@ -5,13 +5,13 @@ use native.Mathlib.Omega.{arith}
 use Prim.Native.Nat.{_-_, _≤_}
 use Rattle.judgement.specs.Coverage.{stateFails, lacksIn}
 use Rattle.judgement.specs.CoverageLaws.{lowest-here, lowest-on, lowest-done}
-use Rattle.judgement.specs.Judgement.{lowest}
+use Rattle.judgement.specs.Judgement.{lowestState}
 use borrow.Author.Needs.{needs}
 use Rattle.judgement.proofs.coverage.lowest_lacking.Statement.{statement}
 use Rattle.judgement.proofs.coverage.lowest_lacking.Tie as tie
 
 abbrev Inv-loop : tie.InvT-loop
-Inv-loop cells d dist flags s q₀ q = (q ≤ d .s) × (lowest (lacksIn (stateFails cells dist (d .t)) flags) (d .s) 0 ≡ lowest (lacksIn (stateFails cells dist (d .t)) flags) (d .s - q) q)
+Inv-loop cells d dist flags s q₀ q = (q ≤ d .s) × (lowestState (lacksIn (stateFails cells dist (d .t)) flags) (d .s) 0 ≡ lowestState (lacksIn (stateFails cells dist (d .t)) flags) (d .s - q) q)
 
 abbrev μ-loop : tie.MeasureT-loop
 μ-loop cells d dist flags s q₀ q = d .s - q

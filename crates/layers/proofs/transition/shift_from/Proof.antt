@@ -1,7 +1,7 @@
 -- `layers::transition::shift_from` meets its contract. Assumes nothing.
 use mathlib.Core.Path.{_∙_, sym}
 use Rattle.layers.specs.ActionLaws.{shift-below, error-shiftless, accept-shiftless, reduce-shiftless}
-use Rattle.layers.specs.LengthenLaws.{step-shift, step-no-shift, step-shift-unwanted}
+use Rattle.layers.specs.LengthenLaws.{lengthen-shift, step-no-shift, step-shift-unwanted}
 use borrow.Author.Needs.{needs}
 use Rattle.layers.proofs.transition.shift_from.Statement.{statement}
 use Rattle.layers.proofs.transition.shift_from.Tie as tie
@@ -19,7 +19,7 @@ level-requires : tie.Need-level-requires
 level-requires c κs = (shift-below _ _ (c .before .before .before .before .before .before .before .before .before .before .before .before .pre .0) (c .before .before .before .before .before .before .before .before .before .before .action-at .ensures) (c .before .before .before .before .before .before .before .before .s .given .1) .1, c .before .before .before .before .before .before .before .before .before .before .before .before .pre .0 .small .terminals, c .before .before .turn-on .ensures .0 .size)
 
 returns-2 : tie.Need-returns-2
-returns-2 c = (record { size = c .level .ensures .0; count = c .before .before .before .turn-on .ensures .0 .count }, step-shift (c .before .before .before .before .before .before .before .before .before .before .before .before .before .pre .0) _ _ _ _ _ _ _ _ (sym (c .before .before .before .before .before .before .before .before .before .before .before .action-at .ensures) ∙ c .before .before .before .before .before .before .before .before .before .s .given .1) (c .before .add .ensures) (record { on = c .before .before .before .before .before .before .if1 .left }) (c .before .before .before .turn-on .ensures .1) (c .level .ensures .1))
+returns-2 c = (record { size = c .level .ensures .0; count = c .before .before .before .turn-on .ensures .0 .count }, lengthen-shift (c .before .before .before .before .before .before .before .before .before .before .before .before .before .pre .0) _ _ _ _ _ _ _ _ (sym (c .before .before .before .before .before .before .before .before .before .before .before .action-at .ensures) ∙ c .before .before .before .before .before .before .before .before .before .s .given .1) (c .before .add .ensures) (record { on = c .before .before .before .before .before .before .if1 .left }) (c .before .before .before .turn-on .ensures .1) (c .level .ensures .1))
 
 returns-3 : tie.Need-returns-3
 returns-3 c = (c .before .before .before .before .pre .1 .1, step-no-shift (c .before .before .before .before .pre .0) _ _ _ (error-shiftless (c .before .before .action-at .ensures) (c .enum-told .given .1)))

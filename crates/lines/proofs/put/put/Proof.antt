@@ -3,22 +3,22 @@ use mathlib.Core.Path.{refl}
 use Prim.Native.Nat.{_-_, _≤_}
 use native.Mathlib.Nat.{le-antisymm}
 use native.Mathlib.Omega.{arith}
-use Rattle.lines.specs.PutLaws.{Copied, copied-none, copied-more, copied-done}
+use Rattle.lines.specs.PutLaws.{WordCopied, word-copied-none, word-copied-more, copied-done}
 use borrow.Author.Needs.{needs}
 use Rattle.lines.proofs.put.put.Statement.{statement}
 use Rattle.lines.proofs.put.put.Tie as tie
 
 abbrev Inv-loop : tie.InvT-loop
-Inv-loop word out₀ at n i₀ out i = (i ≤ n) × Copied word out₀ at out i
+Inv-loop word out₀ at n i₀ out i = (i ≤ n) × WordCopied word out₀ at out i
 
 abbrev μ-loop : tie.MeasureT-loop
 μ-loop word out₀ at n i₀ out i = n - i
 
 loop-holds : tie.Need-loop-holds Inv-loop μ-loop
-loop-holds c = (omega arith, copied-none)
+loop-holds c = (omega arith, word-copied-none)
 
 loop-again : tie.Need-loop-again Inv-loop μ-loop
-loop-again c = (omega arith, copied-more (c .before .before .loop .inv .1) (c .before .loop-test .taken))
+loop-again c = (omega arith, word-copied-more (c .before .before .loop .inv .1) (c .before .loop-test .taken))
 
 same-length : tie.Need-same-length Inv-loop μ-loop
 same-length c = c .before .loop .inv .1 .size

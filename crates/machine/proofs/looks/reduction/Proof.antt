@@ -3,7 +3,7 @@ use Rattle.book.specs.Tables.{tablesOf}
 use mathlib.Core.Path.{sym, _∙_}
 use Prim.Native.Nat.{_-_}
 use native.Mathlib.Omega.{arith}
-use Rattle.machine.specs.StackLaws.{goto-below, left-below, lands-short, lands-none, lands-goto}
+use Rattle.machine.specs.StackLaws.{goto-below, stack-left-below, lands-short, lands-none, lands-goto}
 use borrow.Author.Needs.{needs}
 use Rattle.machine.proofs.looks.reduction.Statement.{statement}
 use Rattle.machine.proofs.looks.reduction.Tie as tie
@@ -15,7 +15,7 @@ cast-goto-at : tie.Need-cast-goto-at
 cast-goto-at c = omega (arith, c .before .before .before .before .before .before .pre .1 .0 .states ((c .before .before .before .before .before .before .args .depth) - c .before .before .before .production-length .result - 1) (omega arith), c .before .before .before .before .before .before .pre .0 .small .states)
 
 goto-at-requires : tie.Need-goto-at-requires
-goto-at-requires c κs = (c .before .before .before .before .before .before .pre .0, (c .before .before .before .before .before .before .pre .1 .0 .states ((c .before .before .before .before .before .before .args .depth) - c .before .before .before .production-length .result - 1) (omega arith), rw (c .before .left-side .ensures) (left-below (c .before .before .before .before .before .before .pre .0) (c .before .before .before .before .before .before .args .p) (c .before .before .before .before .before .before .pre .1 .1))))
+goto-at-requires c κs = (c .before .before .before .before .before .before .pre .0, (c .before .before .before .before .before .before .pre .1 .0 .states ((c .before .before .before .before .before .before .args .depth) - c .before .before .before .production-length .result - 1) (omega arith), rw (c .before .left-side .ensures) (stack-left-below (c .before .before .before .before .before .before .pre .0) (c .before .before .before .before .before .before .args .p) (c .before .before .before .before .before .before .pre .1 .1))))
 
 returns-2 : tie.Need-returns-2
 returns-2 c = lands-none (tablesOf (c .before .before .before .before .before .before .before .before .args .cells .now)) (c .before .before .before .before .before .before .before .before .args .stack .now) (c .before .before .before .before .before .before .before .before .args .depth) ((tablesOf (c .before .before .before .before .before .before .before .before .args .cells .now)) .lhs (c .before .before .before .before .before .before .before .before .args .p)) ((tablesOf (c .before .before .before .before .before .before .before .before .args .cells .now)) .len (c .before .before .before .before .before .before .before .before .args .p)) (omega (arith, c .before .before .before .before .if1 .left, c .before .before .before .before .before .production-length .ensures)) (sym (rw (c .before .before .before .left-side .ensures, c .before .before .before .before .before .production-length .ensures) at (c .before .goto-at .ensures)) ∙ c .if2 .taken)

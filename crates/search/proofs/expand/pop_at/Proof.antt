@@ -2,7 +2,7 @@
 use mathlib.Core.Path.{_∙_, sym}
 use Rattle.book.specs.Tables.{tablesOf}
 use Rattle.layers.specs.ActionLaws.{reduce-below}
-use Rattle.search.specs.ExpandLaws.{step-beyond, step-reduce, step-error, step-accept, step-shift}
+use Rattle.search.specs.ExpandLaws.{step-beyond, expand-reduce, step-error, step-accept, expand-shift}
 use borrow.Author.Needs.{needs}
 use Rattle.search.proofs.expand.pop_at.Statement.{statement}
 use Rattle.search.proofs.expand.pop_at.Tie as tie
@@ -14,7 +14,7 @@ pop-requires : tie.Need-pop-requires
 pop-requires c κs = let p = c .before .before .before .before .before .before .before .before .pre in (p .0, ((reduce-below _ _ (p .0) (c .before .before .before .before .before .action-at .ensures) (c .before .before .before .p .given .1), p .1 .0 .1, p .1 .0 .2), p .1 .1))
 
 returns-2 : tie.Need-returns-2
-returns-2 c = let a = c .before .before .before .before .before .before .before .before .before .args in (c .pop .ensures .0, step-reduce (tablesOf (a .cells .now)) (a .at) (a .m) (a .r) (a .q) (a .c) (a .w) (c .before .before .before .before .before .before .before .if1 .left) (sym (c .before .before .before .before .before .before .action-at .ensures) ∙ c .before .before .before .before .p .given .1) (c .pop .ensures .1))
+returns-2 c = let a = c .before .before .before .before .before .before .before .before .before .args in (c .pop .ensures .0, expand-reduce (tablesOf (a .cells .now)) (a .at) (a .m) (a .r) (a .q) (a .c) (a .w) (c .before .before .before .before .before .before .before .if1 .left) (sym (c .before .before .before .before .before .before .action-at .ensures) ∙ c .before .before .before .before .p .given .1) (c .pop .ensures .1))
 
 returns-3 : tie.Need-returns-3
 returns-3 c = let a = c .before .before .before .before .before .args in (c .before .before .before .before .before .pre .1 .1, step-error (tablesOf (a .cells .now)) (a .at) (a .m) (a .r) (a .q) (a .c) (a .w) (c .before .before .action-at .ensures) (c .enum-told .given .1))
@@ -23,7 +23,7 @@ returns-4 : tie.Need-returns-4
 returns-4 c = let a = c .before .before .before .before .before .args in (c .before .before .before .before .before .pre .1 .1, step-accept (tablesOf (a .cells .now)) (a .at) (a .m) (a .r) (a .q) (a .c) (a .w) (c .before .before .action-at .ensures) (c .enum-told2 .given .1))
 
 returns-5 : tie.Need-returns-5
-returns-5 c = let a = c .before .before .before .before .before .args in (c .before .before .before .before .before .pre .1 .1, step-shift (tablesOf (a .cells .now)) (a .at) (a .m) (a .r) (a .q) (a .c) (a .w) (c .before .before .action-at .ensures) (c .enum-told3 .given .1))
+returns-5 c = let a = c .before .before .before .before .before .args in (c .before .before .before .before .before .pre .1 .1, expand-shift (tablesOf (a .cells .now)) (a .at) (a .m) (a .r) (a .q) (a .c) (a .w) (c .before .before .action-at .ensures) (c .enum-told3 .given .1))
 
 pub pop-at-spec : {M : Type 1} → statement M
 pop-at-spec =
