@@ -1,9 +1,9 @@
 // Distances: from the start to every pair, and from every pair to a set of goal pairs.
-mod goal;
-mod pair;
+mod single_goal;
 mod start;
+mod to_goals;
 mod transition;
 
-pub use goal::to_goal;
-pub use pair::only;
+pub use single_goal::only;
 pub use start::from_start;
+pub use to_goals::to_goal;

@@ -1,21 +1,21 @@
 // What sequences reach: one pair, the whole map, the sets.
 mod admission;
-mod choice;
-mod choosing;
 mod failing;
-mod measure;
-mod one_pair;
-mod pair;
+mod find_pair;
+mod least_length;
+mod lowest_symbol;
 mod prepared;
-mod reached;
+mod reached_sets;
 mod rows;
+mod sentence;
+mod start_distances;
 mod still;
 mod taking;
 mod whole_map;
 
+pub use find_pair::find;
 use number::Refusal;
-pub use one_pair::find;
-pub use reached::sets;
+pub use reached_sets::sets;
 pub use whole_map::map;
 
 // For our own crates, which answer many pairs of one book: `crossings::crossings` builds the crossing table in the work cells
@@ -27,7 +27,7 @@ pub use prepared::answer;
 // .. and which test many: `mask_of` reads a state's set off the distances from the start once, and `pair_fails` tests each pair by it.
 pub use failing::is_error;
 pub use failing::pair_fails;
-pub use reached::mask_of;
+pub use reached_sets::mask_of;
 
 // What the finder answers for one pair; a sentence stands at the front of the lent buffer.
 pub enum Found {

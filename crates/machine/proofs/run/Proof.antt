@@ -21,12 +21,4 @@ returns-2 c = run-admitted (c .before .before .before .before .before .before .b
 
 pub run-spec : {M : Type 1} → statement M
 run-spec =
-    tie.close
-    (tie.spec
-    (λ c κs. search needs)
-    (λ c. search needs)
-    (λ c. search needs)
-    drive-requires
-    returns
-    (λ c. search needs)
-    returns-2)
+    tie.close (tie.spec (λ c κs. search needs) (λ c. search needs) (λ c. search needs) drive-requires returns (λ c. search needs) returns-2)

@@ -10,11 +10,4 @@ slice-aggregate-write-all c = simp length-take (omega (arith, c .before .before 
 
 pub print-header-spec : {M : Type 1} → statement M
 print-header-spec =
-    tie.close
-    (tie.spec
-    (λ c. search needs)
-    (λ c κs. search needs)
-    (λ c. search needs)
-    slice-aggregate-write-all
-    (λ c κs. search needs)
-    (λ c. search needs))
+    tie.close (tie.spec (λ c. search needs) (λ c κs. search needs) (λ c. search needs) slice-aggregate-write-all (λ c κs. search needs) (λ c. search needs))

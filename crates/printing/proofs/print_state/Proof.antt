@@ -13,12 +13,4 @@ slice-aggregate-write-all c = simp length-take (omega (arith, c .before .before 
 
 pub print-state-spec : {M : Type 1} → statement M
 print-state-spec =
-    tie.close
-    (tie.spec
-    (λ c κs. search needs)
-    (λ c. search needs)
-    put-state-requires
-    (λ c. search needs)
-    slice-aggregate-write-all
-    (λ c κs. search needs)
-    (λ c. search needs))
+    tie.close (tie.spec (λ c κs. search needs) (λ c. search needs) put-state-requires (λ c. search needs) slice-aggregate-write-all (λ c κs. search needs) (λ c. search needs))

@@ -13,11 +13,4 @@ slice-aggregate-call-2 c = simp length-take (omega arith)
 
 pub call-spec : {M : Type 1} → statement M
 call-spec =
-    tie.close
-    (tie.spec
-    (λ c. search needs)
-    (λ c. search needs)
-    slice-aggregate-call
-    slice-aggregate-call-2
-    (λ c κs. search needs)
-    (λ c. search needs))
+    tie.close (tie.spec (λ c. search needs) (λ c. search needs) slice-aggregate-call slice-aggregate-call-2 (λ c κs. search needs) (λ c. search needs))

@@ -35,14 +35,4 @@ returns c = c .before .loop .inv .1 .last (c .loop-test .left)
 
 pub nearest-spec : {M : Type 1} → statement M
 nearest-spec =
-    tie.close
-    (tie.spec
-    Inv-loop
-    μ-loop
-    (λ c κs. search needs)
-    loop-holds
-    round-requires
-    add-m
-    loop-less
-    loop-again
-    returns)
+    tie.close (tie.spec Inv-loop μ-loop (λ c κs. search needs) loop-holds round-requires add-m loop-less loop-again returns)

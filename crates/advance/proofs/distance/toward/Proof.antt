@@ -29,14 +29,4 @@ returns-2 c = record { within = omega arith; found = λ h. absurd (omega arith);
 
 pub toward-spec : {M : Type 1} → statement M
 toward-spec =
-    tie.close
-    (tie.spec
-    Inv-loop
-    μ-loop
-    loop-holds
-    (λ c κs. search needs)
-    returns
-    (λ c. search needs)
-    (λ c. search needs)
-    loop-again
-    returns-2)
+    tie.close (tie.spec Inv-loop μ-loop loop-holds (λ c κs. search needs) returns (λ c. search needs) (λ c. search needs) loop-again returns-2)

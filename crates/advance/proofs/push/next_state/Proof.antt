@@ -20,11 +20,4 @@ returns c = next-is (c .before .before .before .before .before .pre .1 .1 .1 .0)
 
 pub next-state-spec : {M : Type 1} → statement M
 next-state-spec =
-    tie.close
-    (tie.spec
-    (λ c. search needs)
-    (λ c. search needs)
-    (λ c κs. search needs)
-    goto-at-requires
-    sub-result
-    returns)
+    tie.close (tie.spec (λ c. search needs) (λ c. search needs) (λ c κs. search needs) goto-at-requires sub-result returns)

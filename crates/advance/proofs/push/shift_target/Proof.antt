@@ -19,14 +19,4 @@ returns-4 c = absurd (reduce-shiftless (c .before .before .action-at .ensures) (
 
 pub shift-target-spec : {M : Type 1} → statement M
 shift-target-spec =
-    tie.close
-    (tie.spec
-    (λ c κs. search needs)
-    (λ c. search needs)
-    (λ c. search needs)
-    (λ c. search needs)
-    (λ c. search needs)
-    returns
-    returns-2
-    returns-3
-    returns-4)
+    tie.close (tie.spec (λ c κs. search needs) (λ c. search needs) (λ c. search needs) (λ c. search needs) (λ c. search needs) returns returns-2 returns-3 returns-4)

@@ -27,14 +27,4 @@ returns-2 c = c .close .ensures ∙ rw (c .before .body-row .ensures, c .before 
 
 pub check-bytes-spec : {M : Type 1} → statement M
 check-bytes-spec =
-    tie.close
-    (tie.spec
-    (λ c κs. search needs)
-    (λ c. search needs)
-    (λ c. search needs)
-    slice-aggregate-sizes
-    sizes-requires
-    body-row-requires
-    (λ c κs. search needs)
-    returns
-    returns-2)
+    tie.close (tie.spec (λ c κs. search needs) (λ c. search needs) (λ c. search needs) slice-aggregate-sizes sizes-requires body-row-requires (λ c κs. search needs) returns returns-2)

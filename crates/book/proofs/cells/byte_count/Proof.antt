@@ -31,16 +31,4 @@ returns c = c .before .loop .inv .1 ∙ ap (λ (l : List ℕ). length (bytesOf l
 
 pub byte-count-spec : {M : Type 1} → statement M
 byte-count-spec =
-    tie.close
-    (tie.spec
-    Inv-loop
-    μ-loop
-    loop-holds
-    (λ c. search needs)
-    (λ c. search needs)
-    (λ c κs. search needs)
-    add-n
-    (λ c. search needs)
-    (λ c. search needs)
-    loop-again
-    returns)
+    tie.close (tie.spec Inv-loop μ-loop loop-holds (λ c. search needs) (λ c. search needs) (λ c κs. search needs) add-n (λ c. search needs) (λ c. search needs) loop-again returns)

@@ -21,13 +21,4 @@ returns-2 c = c .close .ensures ∙ rw (c .before .body-row .ensures, c .before 
 
 pub check-spec : {M : Type 1} → statement M
 check-spec =
-    tie.close
-    (tie.spec
-    (λ c κs. search needs)
-    (λ c. search needs)
-    (λ c. search needs)
-    sizes-requires
-    body-row-requires
-    (λ c κs. search needs)
-    returns
-    returns-2)
+    tie.close (tie.spec (λ c κs. search needs) (λ c. search needs) (λ c. search needs) sizes-requires body-row-requires (λ c κs. search needs) returns returns-2)

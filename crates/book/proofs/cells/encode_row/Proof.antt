@@ -32,16 +32,4 @@ returns c = encoded-done (c .before .loop .inv .2) (c .loop-test .left)
 
 pub encode-row-spec : {M : Type 1} → statement M
 encode-row-spec =
-    tie.close
-    (tie.spec
-    Inv-loop
-    μ-loop
-    loop-holds
-    (λ c. search needs)
-    (λ c. search needs)
-    write-requires
-    (λ c. search needs)
-    (λ c. search needs)
-    loop-again
-    same-length
-    returns)
+    tie.close (tie.spec Inv-loop μ-loop loop-holds (λ c. search needs) (λ c. search needs) write-requires (λ c. search needs) (λ c. search needs) loop-again same-length returns)

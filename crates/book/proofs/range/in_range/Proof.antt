@@ -31,14 +31,4 @@ returns-4 c = rw (le-ltb _ _ (c .before .before .before .if1 .left), le-ltb _ _ 
 
 pub in-range-spec : {M : Type 1} → statement M
 in-range-spec =
-    tie.close
-    (tie.spec
-    (λ c. search needs)
-    returns
-    returns-2
-    mul-if3
-    add-if3
-    (λ c. search needs)
-    (λ c κs. search needs)
-    returns-3
-    returns-4)
+    tie.close (tie.spec (λ c. search needs) returns returns-2 mul-if3 add-if3 (λ c. search needs) (λ c κs. search needs) returns-3 returns-4)

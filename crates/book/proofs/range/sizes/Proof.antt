@@ -23,14 +23,4 @@ returns c = search needs
 
 pub sizes-spec : {M : Type 1} → statement M
 sizes-spec =
-    tie.close
-    (tie.spec
-    (λ c. search needs)
-    cast-t4
-    (λ c. search needs)
-    cast-t7
-    (λ c. search needs)
-    cast-t10
-    (λ c. search needs)
-    cast-t13
-    returns)
+    tie.close (tie.spec (λ c. search needs) cast-t4 (λ c. search needs) cast-t7 (λ c. search needs) cast-t10 (λ c. search needs) cast-t13 returns)

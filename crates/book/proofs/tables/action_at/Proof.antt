@@ -27,14 +27,4 @@ returns c = c .decode .ensures ∙ sym (act-inside (c .before .before .before .p
 
 pub action-at-spec : {M : Type 1} → statement M
 action-at-spec =
-    tie.close
-    (tie.spec
-    (λ c. search needs)
-    (λ c. search needs)
-    mul-decode-2
-    add-decode-2
-    add-decode-3
-    mul-decode-3
-    shared-slice-read-decode
-    (λ c κs. search needs)
-    returns)
+    tie.close (tie.spec (λ c. search needs) (λ c. search needs) mul-decode-2 add-decode-2 add-decode-3 mul-decode-3 shared-slice-read-decode (λ c κs. search needs) returns)

@@ -28,15 +28,4 @@ returns c = sym (goto-inside (c .before .pre .0) _ _ (c .before .pre .1 .0) (c .
 
 pub goto-at-spec : {M : Type 1} → statement M
 goto-at-spec =
-    tie.close
-    (tie.spec
-    (λ c. search needs)
-    (λ c. search needs)
-    (λ c. search needs)
-    (λ c. search needs)
-    mul-result-3
-    add-result-3
-    add-result-4
-    mul-result-4
-    shared-slice-read-result
-    returns)
+    tie.close (tie.spec (λ c. search needs) (λ c. search needs) (λ c. search needs) (λ c. search needs) mul-result-3 add-result-3 add-result-4 mul-result-4 shared-slice-read-result returns)

@@ -30,14 +30,4 @@ returns-2 c = λ e j h. c .before .loop .inv .1 j (omega (arith, c .loop-test .l
 
 pub actions-pass-spec : {M : Type 1} → statement M
 actions-pass-spec =
-    tie.close
-    (tie.spec
-    Inv-loop
-    μ-loop
-    loop-holds
-    (λ c κs. search needs)
-    returns
-    (λ c. search needs)
-    (λ c. search needs)
-    loop-again
-    returns-2)
+    tie.close (tie.spec Inv-loop μ-loop loop-holds (λ c κs. search needs) returns (λ c. search needs) (λ c. search needs) loop-again returns-2)

@@ -17,13 +17,4 @@ returns-2 c = (omega (arith, c .most .ensures), omega (arith, c .most .ensures, 
 
 pub longer-spec : {M : Type 1} → statement M
 longer-spec =
-    tie.close
-    (tie.spec
-    (λ c κs. search needs)
-    (λ c. search needs)
-    goto-at-requires
-    returns
-    (λ c κs. search needs)
-    (λ c. search needs)
-    (λ c κs. search needs)
-    returns-2)
+    tie.close (tie.spec (λ c κs. search needs) (λ c. search needs) goto-at-requires returns (λ c κs. search needs) (λ c. search needs) (λ c κs. search needs) returns-2)

@@ -20,12 +20,4 @@ returns-2 c = to-goto (c .before .before .before .before .before .before .pre .0
 
 pub toward-goto-spec : {M : Type 1} → statement M
 toward-goto-spec =
-    tie.close
-    (tie.spec
-    (λ c κs. search needs)
-    returns
-    (λ c κs. search needs)
-    (λ c. search needs)
-    (λ c. search needs)
-    past-goto-requires
-    returns-2)
+    tie.close (tie.spec (λ c κs. search needs) returns (λ c κs. search needs) (λ c. search needs) (λ c. search needs) past-goto-requires returns-2)

@@ -33,16 +33,4 @@ returns-4 c = rw (sym (c .before .before .before .before .before .before .before
 
 pub admit-map-spec : {M : Type 1} → statement M
 admit-map-spec =
-    tie.close
-    (tie.spec
-    (λ c κs. search needs)
-    (λ c. search needs)
-    (λ c. search needs)
-    returns
-    work-cells-requires
-    (λ c κs. search needs)
-    returns-2
-    mul-if2
-    (λ c κs. search needs)
-    returns-3
-    returns-4)
+    tie.close (tie.spec (λ c κs. search needs) (λ c. search needs) (λ c. search needs) returns work-cells-requires (λ c κs. search needs) returns-2 mul-if2 (λ c κs. search needs) returns-3 returns-4)

@@ -18,14 +18,4 @@ returns-4 c = rw (← c .before .before .action-at .ensures, c .enum-told4 .give
 
 pub is-error-spec : {M : Type 1} → statement M
 is-error-spec =
-    tie.close
-    (tie.spec
-    (λ c κs. search needs)
-    (λ c. search needs)
-    (λ c. search needs)
-    (λ c. search needs)
-    (λ c. search needs)
-    returns
-    returns-2
-    returns-3
-    returns-4)
+    tie.close (tie.spec (λ c κs. search needs) (λ c. search needs) (λ c. search needs) (λ c. search needs) (λ c. search needs) returns returns-2 returns-3 returns-4)

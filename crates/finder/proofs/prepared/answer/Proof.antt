@@ -27,15 +27,4 @@ returns-3 c = answered-sentence (c .before .before .choose .ensures)
 
 pub answer-spec : {M : Type 1} → statement M
 answer-spec =
-    tie.close
-    (tie.spec
-    (λ c κs. search needs)
-    to-goal-requires
-    (λ c κs. search needs)
-    returns
-    returns-2
-    (λ c. search needs)
-    choose-requires
-    (λ c. search needs)
-    (λ c. search needs)
-    returns-3)
+    tie.close (tie.spec (λ c κs. search needs) to-goal-requires (λ c κs. search needs) returns returns-2 (λ c. search needs) choose-requires (λ c. search needs) (λ c. search needs) returns-3)

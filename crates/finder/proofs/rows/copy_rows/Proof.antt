@@ -40,16 +40,4 @@ returns c = let all = le-antisymm (c .before .loop .inv .0) (c .loop-test .left)
 
 pub copy-rows-spec : {M : Type 1} → statement M
 copy-rows-spec =
-    tie.close
-    (tie.spec
-    Inv-loop
-    μ-loop
-    loop-holds
-    (λ c. search needs)
-    copy-row-requires
-    add-at
-    (λ c. search needs)
-    (λ c. search needs)
-    loop-again
-    same-length
-    returns)
+    tie.close (tie.spec Inv-loop μ-loop loop-holds (λ c. search needs) copy-row-requires add-at (λ c. search needs) (λ c. search needs) loop-again same-length returns)

@@ -23,14 +23,4 @@ returns-2 c = rw (c .before .before .before .before .fill .ensures .1) (fills _ 
 
 pub map-spec : {M : Type 1} → statement M
 map-spec =
-    tie.close
-    (tie.spec
-    (λ c κs. search needs)
-    (λ c. search needs)
-    (λ c. search needs)
-    fill-requires
-    mul-t17
-    returns
-    (λ c. search needs)
-    (λ c. search needs)
-    returns-2)
+    tie.close (tie.spec (λ c κs. search needs) (λ c. search needs) (λ c. search needs) fill-requires mul-t17 returns (λ c. search needs) (λ c. search needs) returns-2)

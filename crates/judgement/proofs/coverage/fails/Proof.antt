@@ -30,15 +30,4 @@ returns-2 c = sym (c .before .loop .inv .1 ∙ some-done _ _ _ (c .loop-test .le
 
 pub fails-spec : {M : Type 1} → statement M
 fails-spec =
-    tie.close
-    (tie.spec
-    Inv-loop
-    μ-loop
-    (λ c κs. search needs)
-    loop-holds
-    (λ c κs. search needs)
-    returns
-    (λ c. search needs)
-    (λ c. search needs)
-    loop-again
-    returns-2)
+    tie.close (tie.spec Inv-loop μ-loop (λ c κs. search needs) loop-holds (λ c κs. search needs) returns (λ c. search needs) (λ c. search needs) loop-again returns-2)

@@ -33,15 +33,4 @@ returns-2 c = sym (c .before .loop .inv .1 ∙ lowest-done _ _ _ (c .loop-test .
 
 pub lowest-lacking-spec : {M : Type 1} → statement M
 lowest-lacking-spec =
-    tie.close
-    (tie.spec
-    Inv-loop
-    μ-loop
-    loop-holds
-    (λ c κs. search needs)
-    cast-t9
-    returns
-    (λ c. search needs)
-    (λ c. search needs)
-    loop-again
-    returns-2)
+    tie.close (tie.spec Inv-loop μ-loop loop-holds (λ c κs. search needs) cast-t9 returns (λ c. search needs) (λ c. search needs) loop-again returns-2)

@@ -18,14 +18,4 @@ returns c = (ran-verdict (c .before .before .before .before .before .before .bef
 
 pub judge-entry-spec : {M : Type 1} → statement M
 judge-entry-spec =
-    tie.close
-    (tie.spec
-    (λ c. search needs)
-    (λ c. search needs)
-    (λ c. search needs)
-    (λ c. search needs)
-    (λ c. search needs)
-    drive-requires
-    weigh-requires
-    (λ c. search needs)
-    returns)
+    tie.close (tie.spec (λ c. search needs) (λ c. search needs) (λ c. search needs) (λ c. search needs) (λ c. search needs) drive-requires weigh-requires (λ c. search needs) returns)

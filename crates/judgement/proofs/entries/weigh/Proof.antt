@@ -23,12 +23,4 @@ returns-3 c = rw (sym (c .before .before .before .before .is-right .ensures) ∙
 
 pub weigh-spec : {M : Type 1} → statement M
 weigh-spec =
-    tie.close
-    (tie.spec
-    (λ c κs. search needs)
-    returns
-    (λ c κs. search needs)
-    (λ c. search needs)
-    element-copy-out-if2
-    returns-2
-    returns-3)
+    tie.close (tie.spec (λ c κs. search needs) returns (λ c κs. search needs) (λ c. search needs) element-copy-out-if2 returns-2 returns-3)

@@ -14,13 +14,4 @@ returns c = book-refused (sym (c .before .before .before .check .ensures) ∙ c 
 
 pub judge-spec : {M : Type 1} → statement M
 judge-spec =
-    tie.close
-    (tie.spec
-    (λ c κs. search needs)
-    (λ c. search needs)
-    (λ c. search needs)
-    judge-against-requires
-    returns
-    (λ c. search needs)
-    (λ c. search needs)
-    (λ c. search needs))
+    tie.close (tie.spec (λ c κs. search needs) (λ c. search needs) (λ c. search needs) judge-against-requires returns (λ c. search needs) (λ c. search needs) (λ c. search needs))

@@ -10,11 +10,4 @@ small c = crossing-row-small _ _ _ _ (c .pre .1 .0) (c .pre .1 .1) (c .pre .1 .2
 
 pub crossing-row-spec : {M : Type 1} → statement M
 crossing-row-spec =
-    tie.close
-    (tie.spec
-    (λ c. omega (arith, small c))
-    (λ c. omega (arith, small c))
-    (λ c. omega (arith, small c))
-    (λ c. omega (arith, small c))
-    (λ c. omega (arith, small c))
-    (λ c. search needs))
+    tie.close (tie.spec (λ c. omega (arith, small c)) (λ c. omega (arith, small c)) (λ c. omega (arith, small c)) (λ c. omega (arith, small c)) (λ c. omega (arith, small c)) (λ c. search needs))

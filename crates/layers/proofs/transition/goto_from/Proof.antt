@@ -30,15 +30,4 @@ returns-3 c = (record { size = c .relax .ensures .0; count = c .before .before .
 
 pub goto-from-spec : {M : Type 1} → statement M
 goto-from-spec =
-    tie.close
-    (tie.spec
-    (λ c κs. search needs)
-    returns
-    (λ c. search needs)
-    (λ c. search needs)
-    element-copy-out-if2
-    returns-2
-    (λ c κs. search needs)
-    turn-on-requires
-    relax-requires
-    returns-3)
+    tie.close (tie.spec (λ c κs. search needs) returns (λ c. search needs) (λ c. search needs) element-copy-out-if2 returns-2 (λ c κs. search needs) turn-on-requires relax-requires returns-3)

@@ -35,15 +35,4 @@ returns c = let all = le-antisymm (c .before .loop .inv .0) (c .loop-test .left)
 
 pub rows-spec : {M : Type 1} → statement M
 rows-spec =
-    tie.close
-    (tie.spec
-    Inv-loop
-    μ-loop
-    loop-holds
-    (λ c κs. search needs)
-    add-errors
-    add-failing
-    (λ c. search needs)
-    (λ c. search needs)
-    loop-again
-    returns)
+    tie.close (tie.spec Inv-loop μ-loop loop-holds (λ c κs. search needs) add-errors add-failing (λ c. search needs) (λ c. search needs) loop-again returns)

@@ -21,12 +21,4 @@ returns c = (answered-line (c .before .before .before .before .before .before .b
 
 pub put-pair-spec : {M : Type 1} → statement M
 put-pair-spec =
-    tie.close
-    (tie.spec
-    (λ c κs. search needs)
-    put-number-requires
-    put-next-requires
-    put-found-requires
-    (λ c. search needs)
-    (λ c. search needs)
-    returns)
+    tie.close (tie.spec (λ c κs. search needs) put-number-requires put-next-requires put-found-requires (λ c. search needs) (λ c. search needs) returns)

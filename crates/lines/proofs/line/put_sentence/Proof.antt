@@ -20,11 +20,4 @@ returns c = (put-then (put-then (c .before .before .before .before .before .befo
 
 pub put-sentence-spec : {M : Type 1} → statement M
 put-sentence-spec =
-    tie.close
-    (tie.spec
-    put-next-requires
-    put-symbols-requires
-    (λ c. search needs)
-    put-requires
-    (λ c. search needs)
-    returns)
+    tie.close (tie.spec put-next-requires put-symbols-requires (λ c. search needs) put-requires (λ c. search needs) returns)

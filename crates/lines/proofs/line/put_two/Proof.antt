@@ -27,13 +27,4 @@ returns c = (rw two-words at (put-then (put-then (put-then (put-then (c .before 
 
 pub put-two-spec : {M : Type 1} → statement M
 put-two-spec =
-    tie.close
-    (tie.spec
-    put-requires
-    put-next-requires
-    put-next-word-requires
-    put-next-requires-2
-    (λ c. search needs)
-    put-requires-2
-    (λ c. search needs)
-    returns)
+    tie.close (tie.spec put-requires put-next-requires put-next-word-requires put-next-requires-2 (λ c. search needs) put-requires-2 (λ c. search needs) returns)

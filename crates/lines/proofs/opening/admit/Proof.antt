@@ -24,12 +24,4 @@ returns-3 c = rw (sym (c .before .before .before .before .before .check .ensures
 
 pub admit-spec : {M : Type 1} → statement M
 admit-spec =
-    tie.close
-    (tie.spec
-    (λ c κs. search needs)
-    (λ c. search needs)
-    (λ c. search needs)
-    returns
-    work-cells-requires
-    returns-2
-    returns-3)
+    tie.close (tie.spec (λ c κs. search needs) (λ c. search needs) (λ c. search needs) returns work-cells-requires returns-2 returns-3)

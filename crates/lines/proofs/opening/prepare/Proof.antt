@@ -19,12 +19,4 @@ returns-2 c = prepares _ (sym (c .before .before .before .before .before .before
 
 pub prepare-spec : {M : Type 1} → statement M
 prepare-spec =
-    tie.close
-    (tie.spec
-    (λ c κs. search needs)
-    (λ c. search needs)
-    (λ c. search needs)
-    returns
-    crossings-requires
-    (λ c. search needs)
-    returns-2)
+    tie.close (tie.spec (λ c κs. search needs) (λ c. search needs) (λ c. search needs) returns crossings-requires (λ c. search needs) returns-2)

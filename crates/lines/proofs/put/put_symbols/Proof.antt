@@ -32,16 +32,4 @@ returns c = let all = le-antisymm (c .before .loop .inv .0) (c .loop-test .left)
 
 pub put-symbols-spec : {M : Type 1} → statement M
 put-symbols-spec =
-    tie.close
-    (tie.spec
-    Inv-loop
-    μ-loop
-    loop-holds
-    (λ c. search needs)
-    (λ c κs. search needs)
-    put-next-requires
-    (λ c. search needs)
-    (λ c. search needs)
-    loop-again
-    same-length
-    returns)
+    tie.close (tie.spec Inv-loop μ-loop loop-holds (λ c. search needs) (λ c κs. search needs) put-next-requires (λ c. search needs) (λ c. search needs) loop-again same-length returns)

@@ -15,11 +15,4 @@ returns-2 c = (action-line (sym (c .before .before .before .before .before .befo
 
 pub put-action-spec : {M : Type 1} → statement M
 put-action-spec =
-    tie.close
-    (tie.spec
-    (λ c κs. search needs)
-    returns
-    (λ c κs. search needs)
-    (λ c. search needs)
-    (λ c. search needs)
-    returns-2)
+    tie.close (tie.spec (λ c κs. search needs) returns (λ c κs. search needs) (λ c. search needs) (λ c. search needs) returns-2)

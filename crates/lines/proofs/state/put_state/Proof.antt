@@ -34,15 +34,4 @@ returns c = (lines-done (c .before .loop .inv .2) (le-antisymm (c .before .loop 
 
 pub put-state-spec : {M : Type 1} → statement M
 put-state-spec =
-    tie.close
-    (tie.spec
-    Inv-loop
-    μ-loop
-    loop-holds
-    (λ c. search needs)
-    put-action-requires
-    (λ c. search needs)
-    (λ c. search needs)
-    loop-again
-    same-length
-    returns)
+    tie.close (tie.spec Inv-loop μ-loop loop-holds (λ c. search needs) put-action-requires (λ c. search needs) (λ c. search needs) loop-again same-length returns)

@@ -36,16 +36,4 @@ returns-3 c = omega (arith, c .before .loop .inv .1, sound-none (c .before .befo
 
 pub first-unsound-spec : {M : Type 1} → statement M
 first-unsound-spec =
-    tie.close
-    (tie.spec
-    Inv-loop
-    μ-loop
-    loop-holds
-    (λ c. search needs)
-    cast-a
-    returns
-    returns-2
-    (λ c. search needs)
-    (λ c. search needs)
-    loop-again
-    returns-3)
+    tie.close (tie.spec Inv-loop μ-loop loop-holds (λ c. search needs) cast-a returns returns-2 (λ c. search needs) (λ c. search needs) loop-again returns-3)

@@ -23,15 +23,4 @@ returns-2 c = let h = rw (c .before .before .before .before .before .before .bef
 
 pub finish-spec : {M : Type 1} → statement M
 finish-spec =
-    tie.close
-    (tie.spec
-    (λ c κs. search needs)
-    (λ c. search needs)
-    clear-requires
-    (λ c. search needs)
-    stop-at-requires
-    clear-requires-2
-    (λ c. search needs)
-    returns
-    (λ c. search needs)
-    returns-2)
+    tie.close (tie.spec (λ c κs. search needs) (λ c. search needs) clear-requires (λ c. search needs) stop-at-requires clear-requires-2 (λ c. search needs) returns (λ c. search needs) returns-2)

@@ -8,8 +8,4 @@ returns c = rw (← c .before .next-at .ensures) (c .tell-next .ensures)
 
 pub purlquartz-next-entry-spec : {M : Type 1} → statement M
 purlquartz-next-entry-spec =
-    tie.close
-    (tie.spec
-    (λ c κs. search needs)
-    (λ c κs. search needs)
-    returns)
+    tie.close (tie.spec (λ c κs. search needs) (λ c κs. search needs) returns)

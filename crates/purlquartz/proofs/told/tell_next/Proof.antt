@@ -12,10 +12,4 @@ returns-2 c = rw (c .before .enum-told .given .1) (c .few .ensures)
 
 pub tell-next-spec : {M : Type 1} → statement M
 tell-next-spec =
-    tie.close
-    (tie.spec
-    (λ c. search needs)
-    (λ c. search needs)
-    (λ c κs. search needs)
-    returns
-    returns-2)
+    tie.close (tie.spec (λ c. search needs) (λ c. search needs) (λ c κs. search needs) returns returns-2)

@@ -11,13 +11,4 @@ returns-2 c = rw (c .before .before .before .before .r2 .given .1, ← c .before
 
 pub tell-ran-spec : {M : Type 1} → statement M
 tell-ran-spec =
-    tie.close
-    (tie.spec
-    (λ c. search needs)
-    (λ c κs. search needs)
-    (λ c. search needs)
-    (λ c κs. search needs)
-    (λ c κs. search needs)
-    (λ c κs. search needs)
-    returns
-    returns-2)
+    tie.close (tie.spec (λ c. search needs) (λ c κs. search needs) (λ c. search needs) (λ c κs. search needs) (λ c κs. search needs) (λ c κs. search needs) returns returns-2)

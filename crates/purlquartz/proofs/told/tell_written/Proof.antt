@@ -11,11 +11,4 @@ returns-2 c = rw (c .before .before .w2 .given .1) (c .few .ensures)
 
 pub tell-written-spec : {M : Type 1} → statement M
 tell-written-spec =
-    tie.close
-    (tie.spec
-    (λ c. search needs)
-    (λ c κs. search needs)
-    (λ c. search needs)
-    (λ c κs. search needs)
-    returns
-    returns-2)
+    tie.close (tie.spec (λ c. search needs) (λ c κs. search needs) (λ c. search needs) (λ c κs. search needs) returns returns-2)

@@ -10,11 +10,4 @@ slice-aggregate-write-to c = simp length-take (omega arith)
 
 pub write-spec : {M : Type 1} → statement M
 write-spec =
-    tie.close
-    (tie.spec
-    (λ c κs. search needs)
-    (λ c κs. search needs)
-    (λ c. search needs)
-    slice-aggregate-write-to
-    (λ c κs. search needs)
-    (λ c. search needs))
+    tie.close (tie.spec (λ c κs. search needs) (λ c κs. search needs) (λ c. search needs) slice-aggregate-write-to (λ c κs. search needs) (λ c. search needs))

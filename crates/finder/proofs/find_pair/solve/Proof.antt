@@ -1,0 +1,12 @@
+-- `finder::find_pair::solve` meets its contract. Assumes nothing.
+use Rattle.finder.specs.MapLaws.{work-cleared}
+use borrow.Author.Needs.{needs}
+use Rattle.finder.proofs.find_pair.solve.Statement.{statement}
+use Rattle.finder.proofs.find_pair.solve.Tie as tie
+
+returns : tie.Need-returns
+returns c = (c .before .before .before .before .before .before .before .answer .ensures, work-cleared (c .before .before .before .before .before .before .before .before .before .before .before .before .before .before .before .before .before .args .d) (c .before .before .before .before .before .before .before .before .before .before .before .before .crossings .ensures .1) (c .before .before .before .before .work-cells .ensures) (c .before .before .clear .ensures))
+
+pub solve-spec : {M : Type 1} → statement M
+solve-spec =
+    tie.close (tie.spec (λ c κs. search needs) (λ c κs. search needs) (λ c κs. search needs) (λ c κs. search needs) (λ c. search needs) (λ c. search needs) returns)
