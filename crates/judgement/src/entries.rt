@@ -28,7 +28,7 @@ fn is_right(ending: Ending, len: usize) -> bool
         Ending::Error(stop) => stop.taken == len,
         Ending::Accepted(_) => false,
         Ending::Broken(_) => false,
-        Ending::EntriesPassed(_) => false,
+        Ending::Passed(_) => false,
         Ending::Deep(_) => false,
         Ending::Spinning(_) => false,
     }
