@@ -25,9 +25,9 @@ pub fn goto_at(cells: &[u16], d: Sizes, q: usize, x: usize) -> u16
 {
     let t = d.t;
     let n = d.n;
-    let s = d.s;
+    let states = d.s;
     let p = d.p;
-    cells[5 + 2 * p + s * t + (q * n + x)]
+    cells[5 + 2 * p + states * t + (q * n + x)]
 }
 
 pub fn left_side(cells: &[u16], d: Sizes, p: usize) -> u16

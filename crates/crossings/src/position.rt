@@ -115,8 +115,8 @@ fn mark(cells: &[u16], d: Sizes, positions: &mut [u8; 4096], k: usize)
 {
     let n = k / 128;
     let q = k % 128;
-    let s = d.s;
-    if q >= s {
+    let states = d.s;
+    if q >= states {
         return;
     }
     if !passes(cells, d, positions, n, q) {

@@ -50,9 +50,9 @@ fn gather(cells: &[u16], d: Sizes, work: &mut [u16], masks: &mut [u32], sizes: &
 {
     let mut dist = [UNREACHED; 4096];
     distances_in(cells, d, work, &mut dist);
-    let s = d.s;
+    let states = d.s;
     let t = d.t;
-    write_sets(&dist, s, t, masks, sizes);
+    write_sets(&dist, states, t, masks, sizes);
 }
 
 // Writes S sets, and beside each how many lookaheads are in it; says how many sets.
@@ -63,8 +63,8 @@ pub fn sets(cells: &[u16], work: &mut [u16], masks: &mut [u32], sizes: &mut [u32
         Checked::Refused(r) => Written::Refused(r),
         Checked::Valid(d) => {
             gather(cells, d, work, masks, sizes);
-            let s = d.s;
-            Written::Count(s)
+            let states = d.s;
+            Written::Count(states)
         }
     }
 }

@@ -43,9 +43,9 @@ pub fn choose(
     let mut depth: usize = 1;
     let mut i: usize = 0;
     while i < n {
-        let x = lowest(cells, d, table, togo, &stack[..depth], (n - i) as u16);
-        buffer[i] = x as u8;
-        depth = take_in(cells, d, table, &mut stack, depth, x);
+        let a = lowest(cells, d, table, togo, &stack[..depth], (n - i) as u16);
+        buffer[i] = a as u8;
+        depth = take_in(cells, d, table, &mut stack, depth, a);
         i += 1;
     }
 }

@@ -21,9 +21,9 @@ fn fill(cells: &[u16], d: Sizes, work: &mut [u16], lent: &mut [u16])
 {
     let mut dist = [UNREACHED; 4096];
     distances_in(cells, d, work, &mut dist);
-    let s = d.s;
+    let states = d.s;
     let t = d.t;
-    copy_rows(&dist, s, t, lent);
+    copy_rows(&dist, states, t, lent);
 }
 
 // Writes S × T cells by state, then terminal, and says how many.
@@ -34,9 +34,9 @@ pub fn map(cells: &[u16], work: &mut [u16], lent: &mut [u16]) -> Written
         Checked::Refused(r) => Written::Refused(r),
         Checked::Valid(d) => {
             fill(cells, d, work, lent);
-            let s = d.s;
+            let states = d.s;
             let t = d.t;
-            Written::Count(s * t)
+            Written::Count(states * t)
         }
     }
 }

@@ -50,9 +50,9 @@ fn lowest_lacking(cells: &[u16], d: Sizes, dist: &[u16; 4096], flags: &[u8; 128]
     requires { ⌜ Holds d (now cells) ⌝ }
     ensures { λ r. ⌜ r ≡ lowestState (lacksIn (stateFails (now (cells .entry)) (now (dist .entry)) (d .t)) (now (flags .entry))) (d .s) 0 ⌝ }
 {
-    let s = d.s;
+    let states = d.s;
     let mut q: usize = 0;
-    while q < s {
+    while q < states {
         if lacks(cells, d, dist, flags, q) {
             return Judgement::Uncovered(q as u16);
         }

@@ -22,12 +22,6 @@ pub enum Number {
 }
 
 impl Cursor {
-    pub fn new() -> Self
-        ensures { λ r. ⌜ r .at ≡ 0 ⌝ }
-    {
-        Cursor { at: 0 }
-    }
-
     // The number at the cursor with the cursor after it, or refusal 1 or 2 at its first byte.
     pub fn read(self, bytes: &[u8]) -> Number
         ensures { λ r. ⌜ r ≡ numberAt (now (bytes .entry)) (self .at) ⌝ }

@@ -15,12 +15,12 @@ returns : tie.Need-returns
 returns c = (λ e. absurd (false≢true e), λ e a. omega (arith, a .transition, c .before .goto-at .ensures, c .if1 .taken))
 
 -- the row of claims lies within the table
-row : (c : tie.After-crossing-row) → (c .crossing-row .result + c .before .before .before .before .before .args .d .t ≤ length (c .before .before .before .before .before .args .table .now)) × (c .before .before .before .before .before .args .x < c .before .before .before .before .before .args .d .t)
+row : (c : tie.After-crossing-row) → (c .crossing-row .result + c .before .before .before .before .before .args .d .t ≤ length (c .before .before .before .before .before .args .table .now)) × (c .before .before .before .before .before .args .a < c .before .before .before .before .before .args .d .t)
 row c = let p = c .before .before .before .before .before .pre in (row-fits (p .0) (p .1 .1) (p .1 .2) (p .1 .0) (c .crossing-row .ensures), p .1 .0)
 
 returns-2 : tie.Need-returns-2
 unfolding claimIn
-returns-2 c = (λ e. absurd (false≢true e), λ e a. c .if2 .taken (ap (λ (i : ℕ). getD (c .before .before .before .before .before .before .before .args .table .now) (i + c .before .before .before .before .before .before .before .args .x) 0) (c .before .before .crossing-row .ensures) ∙ a .claimed))
+returns-2 c = (λ e. absurd (false≢true e), λ e a. c .if2 .taken (ap (λ (i : ℕ). getD (c .before .before .before .before .before .before .before .args .table .now) (i + c .before .before .before .before .before .before .before .args .a) 0) (c .before .before .crossing-row .ensures) ∙ a .claimed))
 
 element-copy-out-result : tie.Need-element-copy-out-result
 element-copy-out-result c = omega (arith, goto-least (c .before .before .before .before .before .before .before .pre .0 .holds) _ _ (c .before .before .before .before .goto-at .ensures))
@@ -31,7 +31,7 @@ returns-3 c = (
   λ e. record {
     target = c .before .before .before .before .before .goto-at .result - 1;
     transition = omega (arith, c .before .before .before .before .before .goto-at .ensures, c .before .before .before .before .if1 .left);
-    claimed = ap (λ (i : ℕ). getD (c .before .before .before .before .before .before .before .before .args .table .now) (i + c .before .before .before .before .before .before .before .before .args .x) 0) (sym (c .before .before .before .crossing-row .ensures)) ∙ c .before .if2 .left;
+    claimed = ap (λ (i : ℕ). getD (c .before .before .before .before .before .before .before .before .args .table .now) (i + c .before .before .before .before .before .before .before .before .args .a) 0) (sym (c .before .before .before .crossing-row .ensures)) ∙ c .before .if2 .left;
     distance = eqb-true _ _ e;
   },
   λ e a. eqb-false _ _ e (let same : c .before .before .before .before .before .goto-at .result - 1 ≡ a .target = omega (arith, a .transition, c .before .before .before .before .before .goto-at .ensures) in ap (λ (i : ℕ). getD (c .before .before .before .before .before .before .before .before .args .to .now) i 0) same ∙ a .distance),

@@ -21,7 +21,7 @@ stacked : (c : tie.Start) → Stacked (tablesOf (now (c .args .cells)) .states) 
 stacked c = subst (λ (n : ℕ). Stacked n (now (c .args .stack)) (c .args .depth)) (sym (states-are (c .pre .0 .holds))) (c .pre .1 .1 .1 .0)
 
 -- where the search ends
-at : (c : tie.After-kept) → Spot (tablesOf (now (c .before .before .before .before .before .before .before .before .before .before .before .before .before .args .cells))) (c .before .before .before .before .before .before .before .before .before .before .before .before .before .args .x) (c .before .before .before .before .before .before .before .before .nearest .last .1 .1 .1 .1 .0) (now (c .before .before .before .before .before .before .before .before .before .before .before .before .before .args .stack)) (c .before .before .before .before .before .before .before .before .before .before .before .before .before .args .depth) (c .kept .given .0 .0) (c .kept .given .0 .1 .0)
+at : (c : tie.After-kept) → Spot (tablesOf (now (c .before .before .before .before .before .before .before .before .before .before .before .before .before .args .cells))) (c .before .before .before .before .before .before .before .before .before .before .before .before .before .args .a) (c .before .before .before .before .before .before .before .before .nearest .last .1 .1 .1 .1 .0) (now (c .before .before .before .before .before .before .before .before .before .before .before .before .before .args .stack)) (c .before .before .before .before .before .before .before .before .before .before .before .before .before .args .depth) (c .kept .given .0 .0) (c .kept .given .0 .1 .0)
 at c =
     let p = c .before .before .before .before .before .before .before .before .before .before .before .before .before .pre in
     spot (in-range (p .0 .holds)) (p .1 .1 .0 .1) (column-still (tablesOf (now (c .before .before .before .before .before .before .before .before .before .before .before .before .before .args .cells))) _ _ _ (rw (← states-are (p .0 .holds)) at (c .before .before .before .before .before .still .ensures))) (stacked (c .before .before .before .before .before .before .before .before .before .before .before .before .before)) (omega (arith, p .1 .1 .1 .1)) (rw (c .kept .given .1) at (c .before .before .search .ensures))
