@@ -1,6 +1,6 @@
 // The table book: read, checked, written.
 ghost use mathlib.Core.Path.{_≡_};
-ghost use Rattle.book.specs.Book.{ofCells, toldChecked as answered, reading, writing};
+ghost use Rattle.book.specs.Book.{ofCells, checked as answered, reading, writing};
 ghost use Rattle.purlquartz.specs.Told.{toldWritten, toldChecked};
 use crate::told::tell_checked;
 use crate::told::tell_written;
