@@ -27,21 +27,4 @@ loop-less c = omega (arith, c .before .before .before .before .before .before .p
 
 pub books-spec : {M : Type 1} → statement M
 books-spec =
-    tie.close
-    (tie.spec
-    Inv-loop
-    μ-loop
-    (λ c κs. search needs)
-    (λ c. search needs)
-    (λ c. search needs)
-    (λ c κs. search needs)
-    (λ c κs. search needs)
-    sub-compared
-    part-compared-start
-    part-compared-end
-    (λ c κs. search needs)
-    (λ c κs. search needs)
-    loop-less
-    (λ c. search needs)
-    (λ c. search needs)
-    (λ c. search needs))
+    tie.close (tie.spec Inv-loop μ-loop (λ c κs. search needs) (λ c. search needs) (λ c. search needs) (λ c κs. search needs) (λ c κs. search needs) sub-compared part-compared-start part-compared-end (λ c κs. search needs) (λ c κs. search needs) loop-less (λ c. search needs) (λ c. search needs) (λ c. search needs))

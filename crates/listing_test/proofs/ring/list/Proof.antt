@@ -14,16 +14,4 @@ slice-aggregate-print-listing c = let e : length (c .before .put-actions .last .
 
 pub list-spec : {M : Type 1} → statement M
 list-spec =
-    tie.close
-    (tie.spec
-    (λ c. search needs)
-    (λ c. search needs)
-    (λ c. search needs)
-    (λ c. search needs)
-    (λ c κs. search needs)
-    (λ c. search needs)
-    (λ c. search needs)
-    array-share-prefix-bytes
-    slice-aggregate-print-listing
-    (λ c κs. search needs)
-    (λ c. search needs))
+    tie.close (tie.spec (λ c. search needs) (λ c. search needs) (λ c. search needs) (λ c. search needs) (λ c κs. search needs) (λ c. search needs) (λ c. search needs) array-share-prefix-bytes slice-aggregate-print-listing (λ c κs. search needs) (λ c. search needs))

@@ -19,19 +19,4 @@ add-len-2 c = omega (arith, c .before .shared-slice-known .given (c .before .bef
 
 pub part-at-spec : {M : Type 1} → statement M
 part-at-spec =
-    tie.close
-    (tie.spec
-    (λ c. search needs)
-    (λ c. search needs)
-    (λ c. search needs)
-    (λ c. search needs)
-    cast-len
-    (λ c. search needs)
-    (λ c. search needs)
-    cast-len-2
-    mul-len
-    add-len-2
-    (λ c. search needs)
-    (λ c. search needs)
-    (λ c. search needs)
-    (λ c. search needs))
+    tie.close (tie.spec (λ c. search needs) (λ c. search needs) (λ c. search needs) (λ c. search needs) cast-len (λ c. search needs) (λ c. search needs) cast-len-2 mul-len add-len-2 (λ c. search needs) (λ c. search needs) (λ c. search needs) (λ c. search needs))

@@ -13,17 +13,4 @@ slice-aggregate-find-in-2 c = simp length-take (omega arith)
 
 pub find-spec : {M : Type 1} → statement M
 find-spec =
-    tie.close
-    (tie.spec
-    (λ c κs. search needs)
-    (λ c κs. search needs)
-    (λ c κs. search needs)
-    (λ c κs. search needs)
-    (λ c κs. search needs)
-    (λ c κs. search needs)
-    (λ c. search needs)
-    slice-aggregate-find-in
-    (λ c. search needs)
-    slice-aggregate-find-in-2
-    (λ c κs. search needs)
-    (λ c. search needs))
+    tie.close (tie.spec (λ c κs. search needs) (λ c κs. search needs) (λ c κs. search needs) (λ c κs. search needs) (λ c κs. search needs) (λ c κs. search needs) (λ c. search needs) slice-aggregate-find-in (λ c. search needs) slice-aggregate-find-in-2 (λ c κs. search needs) (λ c. search needs))

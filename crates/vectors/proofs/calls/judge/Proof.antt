@@ -13,15 +13,4 @@ slice-aggregate-judge-in-2 c = simp length-take (omega arith)
 
 pub judge-spec : {M : Type 1} → statement M
 judge-spec =
-    tie.close
-    (tie.spec
-    (λ c κs. search needs)
-    (λ c κs. search needs)
-    (λ c κs. search needs)
-    (λ c κs. search needs)
-    (λ c. search needs)
-    slice-aggregate-judge-in
-    (λ c. search needs)
-    slice-aggregate-judge-in-2
-    (λ c κs. search needs)
-    (λ c. search needs))
+    tie.close (tie.spec (λ c κs. search needs) (λ c κs. search needs) (λ c κs. search needs) (λ c κs. search needs) (λ c. search needs) slice-aggregate-judge-in (λ c. search needs) slice-aggregate-judge-in-2 (λ c κs. search needs) (λ c. search needs))

@@ -13,15 +13,4 @@ slice-aggregate-map-in-2 c = simp length-take (omega arith)
 
 pub map-spec : {M : Type 1} → statement M
 map-spec =
-    tie.close
-    (tie.spec
-    (λ c κs. search needs)
-    (λ c κs. search needs)
-    (λ c κs. search needs)
-    (λ c κs. search needs)
-    (λ c. search needs)
-    slice-aggregate-map-in
-    (λ c. search needs)
-    slice-aggregate-map-in-2
-    (λ c κs. search needs)
-    (λ c. search needs))
+    tie.close (tie.spec (λ c κs. search needs) (λ c κs. search needs) (λ c κs. search needs) (λ c κs. search needs) (λ c. search needs) slice-aggregate-map-in (λ c. search needs) slice-aggregate-map-in-2 (λ c κs. search needs) (λ c. search needs))
