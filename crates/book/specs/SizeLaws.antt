@@ -4,7 +4,7 @@ use mathlib.Core.List.{List, [], _∷_, _++_}
 use mathlib.Core.Path.{_≡_, refl, sym, _∙_, ap}
 use Prim.Native.Nat.{ℕ, zero, suc, _+_, _*_, _-_, _/_, _%_, _≤_, _<_}
 use native.Mathlib.Decide.{decLt, ℕ-discrete}
-use native.Mathlib.Nat.{zero-add, add-zero, zero-mul, suc-mul}
+use native.Mathlib.Nat.{zero-add, add-zero, zero-mul, suc-mul, mul-suc}
 use native.Mathlib.Numerals.{add-one}
 use native.Mathlib.Omega.{arith}
 use borrow.Author.Tests.{lt-ltb, le-ltb, le-leb, eq-eqb, ne-eqb, ltb-true, leb-true}
@@ -43,13 +43,10 @@ wide n h = go (decLt n 128)
     go (yes l) = omega (arith, narrow n l)
     go (no l) = rw (written-two n (omega arith) h) (omega arith)
 
-bytes-narrow : (vs : List ℕ) → ((j : ℕ) → j < length vs → getD vs j 0 < 128) → length (bytesOf vs) ≤ length vs
-bytes-narrow [] h = omega arith
-bytes-narrow (v ∷ vs) h = rw length-append (omega (arith, narrow v (h 0 (omega arith)), bytes-narrow vs (λ j l. h (suc j) (omega arith))))
-
-bytes-wide : (vs : List ℕ) → ((j : ℕ) → j < length vs → getD vs j 0 < 16384) → length (bytesOf vs) ≤ 2 * length vs
-bytes-wide [] h = omega arith
-bytes-wide (v ∷ vs) h = rw length-append (omega (arith, wide v (h 0 (omega arith)), bytes-wide vs (λ j l. h (suc j) (omega arith))))
+-- numbers of at most b bytes each
+bytes-each : (b : ℕ) (vs : List ℕ) → ((j : ℕ) → j < length vs → length (written (getD vs j 0)) ≤ b) → length (bytesOf vs) ≤ b * length vs
+bytes-each b [] h = omega arith
+bytes-each b (v ∷ vs) h = rw (length-append, mul-suc) (omega (arith, h 0 (omega arith), bytes-each b vs (λ j l. h (suc j) (omega arith))))
 
 bytes-split : (i : ℕ) (vs : List ℕ) → length (bytesOf vs) ≡ length (bytesOf (take i vs)) + length (bytesOf (drop i vs))
 bytes-split i vs = ap (λ (l : List ℕ). length (bytesOf l)) (sym (take-append-drop i vs)) ∙ rw (bytes-append, length-append)
@@ -133,10 +130,10 @@ module _ {d : Sizes} {cells : List ℕ} (h : Holds d cells) where
   cells-bytes =
       let rest : drop 2 (drop 3 cells) ≡ drop 5 cells = drop-drop 2 3 cells in
       let after : length (bytesOf (drop 3 cells)) ≡ length (bytesOf (take 2 (drop 3 cells))) + length (bytesOf (drop 5 cells)) = rw rest at (bytes-split 2 (drop 3 cells)) in
-      let a = bytes-narrow (take 3 cells) sizes-narrow in
-      let b = bytes-wide (take 2 (drop 3 cells)) (λ j l. rw (getD-take 2 (drop 3 cells) j 0 (omega (arith, length-take 2 (drop 3 cells))), getD-drop) (cell-wide (3 + j))) in
-      let c = bytes-narrow (take (2 * d .p) (drop 5 cells)) productions-narrow in
-      let e = bytes-wide (drop (2 * d .p) (drop 5 cells)) (λ j l. rw (getD-drop (2 * d .p) (drop 5 cells) j 0, getD-drop) (cell-wide (5 + (2 * d .p + j)))) in
+      let a = bytes-each 1 (take 3 cells) (λ j l. narrow _ (sizes-narrow j l)) in
+      let b = bytes-each 2 (take 2 (drop 3 cells)) (λ j l. rw (getD-take 2 (drop 3 cells) j 0 (omega (arith, length-take 2 (drop 3 cells))), getD-drop) (wide _ (cell-wide (3 + j)))) in
+      let c = bytes-each 1 (take (2 * d .p) (drop 5 cells)) (λ j l. narrow _ (productions-narrow j l)) in
+      let e = bytes-each 2 (drop (2 * d .p) (drop 5 cells)) (λ j l. rw (getD-drop (2 * d .p) (drop 5 cells) j 0, getD-drop) (wide _ (cell-wide (5 + (2 * d .p + j))))) in
       omega
       (arith, h .small .productions, actions-few d (h .small), gotos-few d (h .small), h .count, bytes-split 3 cells, bytes-split (2 * d .p) (drop 5 cells), length-take 3 cells, length-take 2 (drop 3 cells), length-take (2 * d .p) (drop 5 cells), length-drop (2 * d .p) (drop 5 cells), length-drop 5 cells)
 

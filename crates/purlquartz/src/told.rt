@@ -74,7 +74,7 @@ pub fn tell_ran(r: Ran) -> [u64; 8]
     ensures { λ n. ⌜ n ≡ toldRan r ⌝ }
 {
     match r {
-        Ran::Refused(toldRefusal) => tell_refusal(toldRefusal),
+        Ran::Refused(refusal) => tell_refusal(refusal),
         Ran::Ended(e) => tell_ended(kind_of(e), stop_of(e)),
     }
 }

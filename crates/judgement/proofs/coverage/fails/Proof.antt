@@ -20,10 +20,10 @@ loop-holds : tie.Need-loop-holds Inv-loop μ-loop
 loop-holds c = (omega arith, rw sub-zero)
 
 returns : tie.Need-returns Inv-loop μ-loop
-returns c = sym (c .before .before .before .loop .inv .1 ∙ some-here _ _ _ (c .before .before .loop-test .taken) (sym (rw (c .before .before .before .before .mask-of .ensures) at (c .before .pair-fails .ensures)) ∙ c .if1 .taken))
+returns c = sym (c .before .before .before .loop .inv .1 ∙ some-here _ _ _ (c .before .before .loop-test .taken) (sym (c .before .pair-fails .ensures ∙ rw (c .before .before .before .before .mask-of .ensures)) ∙ c .if1 .taken))
 
 loop-again : tie.Need-loop-again Inv-loop μ-loop
-loop-again c = (omega arith, c .before .before .before .loop .inv .1 ∙ some-on _ _ _ (c .before .before .loop-test .taken) (sym (rw (c .before .before .before .before .mask-of .ensures) at (c .before .pair-fails .ensures)) ∙ c .if1 .left))
+loop-again c = (omega arith, c .before .before .before .loop .inv .1 ∙ some-on _ _ _ (c .before .before .loop-test .taken) (sym (c .before .pair-fails .ensures ∙ rw (c .before .before .before .before .mask-of .ensures)) ∙ c .if1 .left))
 
 returns-2 : tie.Need-returns-2 Inv-loop μ-loop
 returns-2 c = sym (c .before .loop .inv .1 ∙ some-done _ _ _ (c .loop-test .left))
