@@ -6,10 +6,11 @@ use Prim.Native.Nat.{ℕ, zero, suc, _+_, _≤_, _<_}
 use native.Mathlib.Decide.{decLe, decLt, ℕ-discrete}
 use native.Mathlib.Numerals.{add-one}
 use native.Mathlib.Omega.{arith}
-use borrow.Author.Tests.{lt-ltb, le-ltb, le-leb, lt-leb, eq-eqb, ne-eqb}
+use borrow.Author.Tests.{le-ltb, le-leb, lt-leb}
 use lib.Dec.{ltb}
 use lib.ListN.{length, getD, take, drop, List·getD-append, length-append, length-drop, take-append-drop}
 use lib.Seq.{drop-cons, getD-take, take-all}
+use Rattle.number.specs.TestLaws.{tests}
 use Rattle.number.specs.Lent.{over}
 use Rattle.number.specs.Number.{value}
 use Rattle.number.specs.NumberLaws.{value-is, refused-not-value}
@@ -50,8 +51,8 @@ head-number : (i : ℕ) → headNumber i ≡ 0 → ⊥
 head-number i = go (ℕ-discrete i 0)
   where
     go : Dec (i ≡ 0) → headNumber i ≡ 0 → ⊥
-    go (yes h) e = omega (arith, rw (eq-eqb i 0 h) at e)
-    go (no h) e = omega (arith, rw (ne-eqb i 0 h) at e)
+    go (yes h) e = omega (arith, simp tests at e)
+    go (no h) e = omega (arith, simp tests at e)
 
 pub head-range : (i v : ℕ) → headFault i v ≡ 0 → (getD headLowest i 0 ≤ v) × (v ≤ getD headHighest i 0)
 unfolding headFault
@@ -84,7 +85,7 @@ module _ (source : ℕ → Number) (end : ℕ) where
   checked-on head at e = rw e (by-row (row source (bodyFault (sizesOf head)) (bodyLength (sizesOf head)) 0 at))
     where
       by-end : (body : List ℕ) (next : ℕ) → Dec (next < end) → closing (sizesOf head) end (value 0 next) ≡ checked (whole end head (read body next))
-      by-end body next (yes h) = rw (lt-ltb next end h)
+      by-end body next (yes h) = simp tests
       by-end body next (no h) = rw (le-ltb next end (omega arith), sizes-append head body (row-length source headFault 5 0 0 head at e))
 
       by-row : (w : Row) → closing (sizesOf head) end (ends w) ≡ checked (whole end head w)
@@ -111,7 +112,7 @@ unfolding cellAt
 cell-found cells i v next e = go (decLt i (length cells))
   where
     go : Dec (i < length cells) → (i < length cells) × (v ≡ getD cells i 0) × (next .at ≡ i + 1)
-    go (yes h) = let (p, q) = value-is (getD cells i 0) (i + 1) v (next .at) (rw (lt-ltb i (length cells) h) at e) in (h, sym p, sym q)
+    go (yes h) = let (p, q) = value-is (getD cells i 0) (i + 1) v (next .at) (simp tests at e) in (h, sym p, sym q)
     go (no h) = absurd (refused-not-value _ v (next .at) (rw (le-ltb i (length cells) (omega arith)) at e))
 
 pub cells-row : (cells : List ℕ) (fault : ℕ → ℕ → ℕ) (k i at : ℕ) (vs : List ℕ) (next : ℕ) → row (cellAt cells) fault k i at ≡ read vs next → at ≤ length cells
@@ -176,7 +177,7 @@ book-whole source end cells next e = by-head (row source headFault 5 0 0) refl
     by-end : (head body : List ℕ) (at last : ℕ) → row source headFault 5 0 0 ≡ read head at
         → row source (bodyFault (sizesOf head)) (bodyLength (sizesOf head)) 0 at ≡ read body last
         → whole end head (read body last) ≡ read cells next → Dec (last < end) → Whole source end cells next
-    by-end head body at last f g i (yes h) = absurd (refused-is-not _ cells next (rw (lt-ltb last end h) at i))
+    by-end head body at last f g i (yes h) = absurd (refused-is-not _ cells next (simp tests at i))
     by-end head body at last f g i (no h) =
         let j : read (head ++ body) last ≡ read cells next = rw (le-ltb last end (omega arith)) at i in
         let k : last ≡ next = cc in

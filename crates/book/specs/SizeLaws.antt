@@ -10,6 +10,7 @@ use native.Mathlib.Omega.{arith}
 use borrow.Author.Tests.{lt-ltb, le-ltb, le-leb, eq-eqb, ne-eqb, ltb-true, leb-true}
 use lib.ListN.{length, getD, take, drop, replicate, length-append, length-take, length-drop, length-replicate, getD-replicate, take-append-drop, List·getD-append, List·getD-eq-default}
 use lib.Seq.{drop-cons, drop-drop, getD-append-add, getD-drop, getD-take, take-all}
+use Rattle.number.specs.TestLaws.{tests}
 use Rattle.number.specs.Number.{written}
 use Rattle.number.specs.NumberLaws.{Bytes, written-one, written-two}
 use Rattle.book.specs.Action.{actionOf, codeOf}
@@ -59,8 +60,8 @@ action-wide d h t v Accept e f = omega arith
 action-wide d h t v (Shift s) e f = go (ℕ-discrete t 0)
   where
     go : Dec (t ≡ 0) → v < 16384
-    go (yes z) = absurd (false≢true (rw (eq-eqb t 0 z) at e))
-    go (no z) = omega (arith, ltb-true s (d .s) (rw (ne-eqb t 0 z) at e), h .states)
+    go (yes z) = absurd (false≢true (simp tests at e))
+    go (no z) = omega (arith, ltb-true s (d .s) (simp tests at e), h .states)
 action-wide d h t v (Reduce p) e f = omega (arith, ltb-true p (d .p) e, h .productions)
 
 module _ (d : Sizes) (h : Small d) (i v : ℕ) where
@@ -69,8 +70,8 @@ module _ (d : Sizes) (h : Small d) (i v : ℕ) where
   production-narrow l e = go (ℕ-discrete (i % 2) 0)
     where
       go : Dec (i % 2 ≡ 0) → v < 128
-      go (yes z) = omega (arith, ltb-true v (d .n) (rw (lt-ltb i (2 * d .p) l, eq-eqb (i % 2) 0 z) at e), h .nonterminals)
-      go (no z) = omega (arith, leb-true v 32 (rw (lt-ltb i (2 * d .p) l, ne-eqb (i % 2) 0 z) at e))
+      go (yes z) = omega (arith, ltb-true v (d .n) (simp tests at e), h .nonterminals)
+      go (no z) = omega (arith, leb-true v 32 (simp tests at e))
 
   fits-wide : fits d i v ≡ true → v < 16384
   unfolding fits
@@ -220,9 +221,9 @@ module _ (d : Sizes) where
     full-head : (j : ℕ) → j < 5 → headFault j (getD (full d) j 0) ≡ 0
     unfolding full headFault
     full-head zero l = refl
-    full-head (suc zero) l = rw (le-leb 1 (d .t) (small .some-terminal), le-leb (d .t) 32 (small .terminals))
+    full-head (suc zero) l = simp (tests, small .some-terminal, small .terminals)
     full-head (suc (suc zero)) l = rw (le-leb 0 (d .n) (omega arith), le-leb (d .n) 32 (small .nonterminals))
-    full-head (suc (suc (suc zero))) l = rw (le-leb 1 (d .s) (small .some-state), le-leb (d .s) 128 (small .states))
+    full-head (suc (suc (suc zero))) l = simp (tests, small .some-state, small .states)
     full-head (suc (suc (suc (suc zero)))) l = rw (le-leb 0 (d .p) (omega arith), le-leb (d .p) 128 (small .productions))
     full-head (suc (suc (suc (suc (suc j))))) l = absurd (omega arith)
 

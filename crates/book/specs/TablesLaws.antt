@@ -11,6 +11,7 @@ use borrow.Author.Tests.{lt-ltb, le-ltb, eq-eqb, ne-eqb, ltb-true, leb-true}
 use lib.Dec.{ltb}
 use lib.ListN.{length, getD, drop}
 use lib.Seq.{getD-drop, getD-take}
+use Rattle.number.specs.TestLaws.{tests}
 use Rattle.book.specs.Action.{actionOf}
 use Rattle.book.specs.Book.{cellAt, read, row, ofCells, bookIn, checked}
 use Rattle.book.specs.BookLaws.{book-whole, cells-row, cells-valid, checked-valid, whole-small, whole-count, whole-sizes}
@@ -145,8 +146,8 @@ unfolding allowed
 shift-allowed d a s e = go (ℕ-discrete a 0)
   where
     go : Dec (a ≡ 0) → (1 ≤ a) × (s < d .s)
-    go (yes z) = absurd (false≢true (rw (eq-eqb a 0 z) at e))
-    go (no z) = (omega arith, ltb-true s (d .s) (rw (ne-eqb a 0 z) at e))
+    go (yes z) = absurd (false≢true (simp tests at e))
+    go (no z) = (omega arith, ltb-true s (d .s) (simp tests at e))
 
 reduce-allowed : (d : Sizes) (a p : ℕ) → allowed d a (Reduce p) ≡ true → p < d .p
 unfolding allowed

@@ -5,11 +5,13 @@ use Prim.Native.Nat.{ℕ, zero, suc, _+_, _*_, _%_, _-_, _≤_, _<_}
 use native.Mathlib.Decide.{decLe, decLt, ℕ-discrete}
 use native.Mathlib.Numerals.{add-one}
 use native.Mathlib.Omega.{arith}
-use borrow.Author.Tests.{lt-ltb, le-ltb, le-leb, lt-leb, eq-eqb, ne-eqb}
+use borrow.Author.Tests.{lt-ltb, le-ltb, le-leb, lt-leb, eq-eqb}
+
 use lib.ListN.{length, getD, take, drop, length-drop, drop-of-length-le}
 use lib.Seq.{take-all, drop-cons}
 use Rattle.number.specs.Number.{numberAt, first, second, third, value}
 use Rattle.number.specs.NumberLaws.{byte-at, value-is, refused-not-value}
+use Rattle.number.specs.TestLaws.{tests}
 use Rattle.number.specs.declared.Cursor.{Cursor}
 use Rattle.number.specs.declared.Number.{Number}
 use Rattle.number.specs.declared.Number.the-variants.{Value, Refused}
@@ -42,7 +44,7 @@ module _ (t : ℕ) (bytes : List ℕ) (start len : ℕ) where
 -- ---- ranges
 pub outside-none : (least limit number v : ℕ) → least ≤ v → v < limit → outside least limit number v ≡ 0
 unfolding outside
-outside-none least limit number v g h = rw (le-leb least v g, lt-ltb v limit h)
+outside-none least limit number v g h = simp tests
 
 pub inside : (least limit k v : ℕ) → outside least limit (suc k) v ≡ 0 → (least ≤ v) × (v < limit)
 unfolding outside
@@ -60,10 +62,10 @@ admitted-found fault at (Value w c) v next e = go (ℕ-discrete (fault w) 0)
   where
     go : Dec (fault w ≡ 0) → (Value w c ≡ Value v next) × (fault v ≡ 0)
     go (yes z) =
-        let f : Value w c ≡ Value v next = rw (eq-eqb (fault w) 0 z) at e in
+        let f : Value w c ≡ Value v next = simp tests at e in
         let g : w ≡ v = cc in
         (f, rw g at z)
-    go (no z) = absurd (refused-not-value _ v (next .at) (rw (ne-eqb (fault w) 0 z) at e))
+    go (no z) = absurd (refused-not-value _ v (next .at) (simp tests at e))
 
 -- a row that was read is read by other faults that find none
 pub row-refault : (source : ℕ → Number) (fault other : ℕ → ℕ → ℕ) → ((i v : ℕ) → fault i v ≡ 0 → other i v ≡ 0) → (k i at : ℕ) (vs : List ℕ) (next : ℕ)
@@ -130,31 +132,27 @@ module _ (t : ℕ) (bytes : List ℕ) (at : ℕ) where
       let look : lookaheadFault u (e .lookahead) ≡ 0 = outside-none 0 u 11 (e .lookahead) (omega arith) (omega (arith, p .below)) in
       rw (p .begins, eq-eqb (lengthFault (e .len)) 0 low, row-of, p .looks, eq-eqb (lookaheadFault u (e .lookahead)) 0 look)
 
--- ---- a number below 128 takes one byte
-third-big : (at a b : ℕ) (s : List ℕ) (v next : ℕ) → v < 128 → third at a b s ≡ value v next → ⊥
+-- ---- a number that was read: how many bytes it took, and how small it can be then
+third-read : (at a b : ℕ) (s : List ℕ) (v next : ℕ) → third at a b s ≡ value v next → (128 ≤ v) × (next ≤ at + 2 + length s)
 unfolding third
-third-big at a b [] v next h e = refused-not-value _ v next e
-third-big at a b (c ∷ s) v next h e = go (ℕ-discrete c 0) (decLt c 128) (decLt 65535 (a % 128 + 128 * (b % 128) + 16384 * c))
+third-read at a b [] v next e = absurd (refused-not-value _ v next e)
+third-read at a b (c ∷ s) v next e = go (ℕ-discrete c 0) (decLt c 128) (decLt 65535 (a % 128 + 128 * (b % 128) + 16384 * c))
   where
-    go : Dec (c ≡ 0) → Dec (c < 128) → Dec (65535 < a % 128 + 128 * (b % 128) + 16384 * c) → ⊥
-    go (yes z) d f = refused-not-value _ v next (rw (eq-eqb c 0 z) at e)
-    go (no z) (no d) f = refused-not-value _ v next (rw (ne-eqb c 0 z, le-leb 128 c (omega arith)) at e)
-    go (no z) (yes d) (yes f) = refused-not-value _ v next (rw (ne-eqb c 0 z, lt-leb 128 c d, lt-ltb 65535 _ f) at e)
-    go (no z) (yes d) (no f) =
-        let (i, j) = value-is (a % 128 + 128 * (b % 128) + 16384 * c) (at + 3) v next (rw (ne-eqb c 0 z, lt-leb 128 c d, le-ltb 65535 (a % 128 + 128 * (b % 128) + 16384 * c) (omega arith)) at e) in
-        omega arith
+    go : Dec (c ≡ 0) → Dec (c < 128) → Dec (65535 < a % 128 + 128 * (b % 128) + 16384 * c) → (128 ≤ v) × (next ≤ at + 2 + length (c ∷ s))
+    go (yes z) d f = absurd (refused-not-value _ v next (simp tests at e))
+    go (no z) (no d) f = absurd (refused-not-value _ v next (simp tests at e))
+    go (no z) (yes d) (yes f) = absurd (refused-not-value _ v next (simp tests at e))
+    go (no z) (yes d) (no f) = let (i, j) = value-is (a % 128 + 128 * (b % 128) + 16384 * c) (at + 3) v next (simp tests at e) in omega arith
 
-second-big : (at a : ℕ) (s : List ℕ) (v next : ℕ) → v < 128 → second at a s ≡ value v next → ⊥
+second-read : (at a : ℕ) (s : List ℕ) (v next : ℕ) → second at a s ≡ value v next → (128 ≤ v) × (next ≤ at + 1 + length s)
 unfolding second
-second-big at a [] v next h e = refused-not-value _ v next e
-second-big at a (b ∷ s) v next h e = go (ℕ-discrete b 0) (decLt b 128)
+second-read at a [] v next e = absurd (refused-not-value _ v next e)
+second-read at a (b ∷ s) v next e = go (ℕ-discrete b 0) (decLt b 128)
   where
-    go : Dec (b ≡ 0) → Dec (b < 128) → ⊥
-    go (yes z) d = refused-not-value _ v next (rw (eq-eqb b 0 z) at e)
-    go (no z) (no d) = third-big at a b s v next h (rw (ne-eqb b 0 z, le-ltb b 128 (omega arith)) at e)
-    go (no z) (yes d) =
-        let (i, j) = value-is (a % 128 + 128 * b) (at + 2) v next (rw (ne-eqb b 0 z, lt-ltb b 128 d) at e) in
-        omega arith
+    go : Dec (b ≡ 0) → Dec (b < 128) → (128 ≤ v) × (next ≤ at + 1 + length (b ∷ s))
+    go (yes z) d = absurd (refused-not-value _ v next (simp tests at e))
+    go (no z) (no d) = let h = third-read at a b s v next (simp tests at e) in omega arith
+    go (no z) (yes d) = let (i, j) = value-is (a % 128 + 128 * b) (at + 2) v next (simp tests at e) in omega arith
 
 pub one-byte : (bytes : List ℕ) (at v : ℕ) (next : Cursor) → v < 128 → numberAt bytes at ≡ Value v next
     → (at < length bytes) × (v ≡ getD bytes at 0) × (next .at ≡ at + 1)
@@ -165,7 +163,7 @@ one-byte bytes at v next h e = go (decLt at (length bytes)) (decLt (getD bytes a
     go (no l) d =
         let past : length bytes ≤ at = omega arith in
         absurd (refused-not-value _ v (next .at) (rw (drop-of-length-le bytes past) at e))
-    go (yes l) (no d) = absurd (second-big at (getD bytes at 0) (drop (at + 1) bytes) v (next .at) h (rw (byte-at bytes at l, le-ltb (getD bytes at 0) 128 (omega arith)) at e))
+    go (yes l) (no d) = let (big, within) = second-read at (getD bytes at 0) (drop (at + 1) bytes) v (next .at) (rw (byte-at bytes at l, le-ltb (getD bytes at 0) 128 (omega arith)) at e) in absurd (omega arith)
     go (yes l) (yes d) =
         let (i, j) = value-is (getD bytes at 0) (at + 1) v (next .at) (rw (byte-at bytes at l, lt-ltb (getD bytes at 0) 128 d) at e) in
         (l, sym i, sym j)
@@ -188,40 +186,15 @@ symbols-part t bytes few (suc k) i at vs next e h =
     }
 
 -- ---- a number that was read ends within the bytes
-third-within : (at a b : ℕ) (s : List ℕ) (v next : ℕ) → third at a b s ≡ value v next → next ≤ at + 2 + length s
-unfolding third
-third-within at a b [] v next e = absurd (refused-not-value _ v next e)
-third-within at a b (c ∷ s) v next e = go (ℕ-discrete c 0) (decLt c 128) (decLt 65535 (a % 128 + 128 * (b % 128) + 16384 * c))
-  where
-    go : Dec (c ≡ 0) → Dec (c < 128) → Dec (65535 < a % 128 + 128 * (b % 128) + 16384 * c) → next ≤ at + 2 + length (c ∷ s)
-    go (yes z) d f = absurd (refused-not-value _ v next (rw (eq-eqb c 0 z) at e))
-    go (no z) (no d) f = absurd (refused-not-value _ v next (rw (ne-eqb c 0 z, le-leb 128 c (omega arith)) at e))
-    go (no z) (yes d) (yes f) = absurd (refused-not-value _ v next (rw (ne-eqb c 0 z, lt-leb 128 c d, lt-ltb 65535 _ f) at e))
-    go (no z) (yes d) (no f) =
-        let (i, j) = value-is (a % 128 + 128 * (b % 128) + 16384 * c) (at + 3) v next (rw (ne-eqb c 0 z, lt-leb 128 c d, le-ltb 65535 (a % 128 + 128 * (b % 128) + 16384 * c) (omega arith)) at e) in
-        omega arith
-
-second-within : (at a : ℕ) (s : List ℕ) (v next : ℕ) → second at a s ≡ value v next → next ≤ at + 1 + length s
-unfolding second
-second-within at a [] v next e = absurd (refused-not-value _ v next e)
-second-within at a (b ∷ s) v next e = go (ℕ-discrete b 0) (decLt b 128)
-  where
-    go : Dec (b ≡ 0) → Dec (b < 128) → next ≤ at + 1 + length (b ∷ s)
-    go (yes z) d = absurd (refused-not-value _ v next (rw (eq-eqb b 0 z) at e))
-    go (no z) (no d) = let h = third-within at a b s v next (rw (ne-eqb b 0 z, le-ltb b 128 (omega arith)) at e) in omega arith
-    go (no z) (yes d) =
-        let (i, j) = value-is (a % 128 + 128 * b) (at + 2) v next (rw (ne-eqb b 0 z, lt-ltb b 128 d) at e) in
-        omega arith
-
 first-within : (at : ℕ) (s : List ℕ) (v next : ℕ) → first at s ≡ value v next → (next ≤ at + length s) × (1 ≤ length s)
 unfolding first
 first-within at [] v next e = absurd (refused-not-value _ v next e)
 first-within at (a ∷ s) v next e = go (decLt a 128)
   where
     go : Dec (a < 128) → (next ≤ at + length (a ∷ s)) × (1 ≤ length (a ∷ s))
-    go (no d) = let h = second-within at a s v next (rw (le-ltb a 128 (omega arith)) at e) in (omega arith, omega arith)
+    go (no d) = let h = second-read at a s v next (simp tests at e) in (omega arith, omega arith)
     go (yes d) =
-        let (i, j) = value-is a (at + 1) v next (rw (lt-ltb a 128 d) at e) in
+        let (i, j) = value-is a (at + 1) v next (simp tests at e) in
         (omega arith, omega arith)
 
 pub number-within : (bytes : List ℕ) (at v next : ℕ) → numberAt bytes at ≡ value v next → next ≤ length bytes

@@ -5,9 +5,10 @@ use mathlib.Core.List.{List, [], _∷_}
 use Prim.Native.Nat.{ℕ, zero, suc, _+_, _-_, _≤_, _<_}
 use native.Mathlib.Decide.{decLt}
 use native.Mathlib.Omega.{arith}
-use borrow.Author.Tests.{lt-ltb, le-ltb}
+use borrow.Author.Tests.{le-ltb}
 use lib.Dec.{ltb}
 use lib.ListN.{length}
+use Rattle.number.specs.TestLaws.{tests}
 use Rattle.number.specs.Number.{numberAt, value}
 use Rattle.number.specs.declared.Cursor.{Cursor}
 use Rattle.number.specs.declared.Number.{Number}
@@ -132,7 +133,7 @@ module _ (t : ℕ) (bytes : List ℕ) where
     where
       by-end : (es : List Entry) (at : ℕ) → entriesAt t bytes n (next .at) ≡ entries es at → Dec (at < length bytes)
           → listClosing (next .at) n (length bytes) (value 0 at) ≡ listing bytes (closed (length bytes) (entries es at))
-      by-end es at f (yes h) = rw (lt-ltb at (length bytes) h)
+      by-end es at f (yes h) = simp tests
       by-end es at f (no h) =
           rw (le-ltb at (length bytes) (omega arith), admitted-found countFault 0 (numberAt bytes 0) n next e .0, entries-count t bytes n (next .at) es at f)
 

@@ -5,8 +5,9 @@ use mathlib.Core.List.{List, [], _∷_}
 use Prim.Native.Nat.{ℕ, zero, suc, _-_, _≤_, _<_}
 use native.Mathlib.Omega.{arith}
 use native.Mathlib.Decide.{decLt, ℕ-discrete}
-use borrow.Author.Tests.{lt-ltb, le-ltb, eq-eqb, ne-eqb}
+use borrow.Author.Tests.{le-ltb, ne-eqb}
 use lib.ListN.{length}
+use Rattle.number.specs.TestLaws.{tests}
 use denote.Ref.{RefT, now}
 use Rattle.number.specs.Number.{numberAt}
 use Rattle.number.specs.declared.Cursor.{Cursor}
@@ -48,7 +49,7 @@ module _ (bytes : List ℕ) where
   -- none after the last
   pub holds-none : (rest : Rest) → EntriesHeld bytes rest [] → nextAt bytes (rest .at) (rest .left) ≡ None
   unfolding nextAt
-  holds-none rest h = rw (eq-eqb (rest .left) 0 (holds-count rest [] h))
+  holds-none rest h = simp (tests, holds-count rest [] h)
 
   -- the next, and the rest after it
   pub record ReaderOnward (rest : Rest) (e : Entry) (es : List Entry) : Type 0 where
@@ -84,7 +85,7 @@ module _ (bytes : List ℕ) (es : List Entry) (end : ℕ) where
       by-end : (n : ℕ) (next : Cursor) → admitted countFault 0 (numberAt bytes 0) ≡ Value n next → (xs : List Entry) (last : ℕ)
           → entriesAt t bytes n (next .at) ≡ entries xs last → closed (length bytes) (entries xs last) ≡ entries es end → Dec (last < length bytes)
           → Located t
-      by-end n next f xs last g i (yes h) = absurd (refused-not-entries _ es end (rw (lt-ltb last (length bytes) h) at i))
+      by-end n next f xs last g i (yes h) = absurd (refused-not-entries _ es end (simp tests at i))
       by-end n next f xs last g i (no h) =
           let j : entries xs last ≡ entries es end = rw (le-ltb last (length bytes) (omega arith)) at i in
           let ahead : entriesAt t bytes n (next .at) ≡ entries es end = g ∙ j in
@@ -131,8 +132,8 @@ module _ (bytes : List ℕ) (at : ℕ) where
       by-step (Stepped x next) z g = let i : left - 1 ≡ rest .left = cc in omega arith
 
       go : Dec (left ≡ 0) → rest .left < left
-      go (yes z) = absurd (let g : None ≡ Found e rest = rw (eq-eqb left 0 z) at f in let i : _≡_ {A = ℕ} 0 1 = cc in omega arith)
-      go (no z) = by-step (entryAt 32 bytes at) z (rw (ne-eqb left 0 z) at f)
+      go (yes z) = absurd (let g : None ≡ Found e rest = simp tests at f in let i : _≡_ {A = ℕ} 0 1 = cc in omega arith)
+      go (no z) = by-step (entryAt 32 bytes at) z (simp tests at f)
 
 -- ---- a reader after k turns
 abbrev pub turns : ℕ → Reader → Reader

@@ -5,9 +5,9 @@ use mathlib.Core.List.{List, [], _∷_, _++_}
 use Prim.Native.Nat.{ℕ, zero, suc, _+_, _*_, _%_, _≤_}
 use native.Mathlib.Decide.{ℕ-discrete}
 use native.Mathlib.Omega.{arith}
-use borrow.Author.Tests.{eq-eqb, ne-eqb}
 use lib.Dec.{ltb, leb, eqb}
 use lib.ListN.{length, drop, getD}
+use Rattle.number.specs.TestLaws.{tests}
 use Rattle.number.specs.Number.{numberAt, refusal, value, first, second, third}
 use Rattle.number.specs.declared.Number.{Number}
 use Rattle.number.specs.declared.Number.the-variants.{Value, Refused}
@@ -62,8 +62,8 @@ admitted-numbered fault at (Refused r) p = p
 admitted-numbered fault at (Value v next) p = go (ℕ-discrete (fault v) 0)
   where
     go : Dec (fault v ≡ 0) → Numbered (admitted fault at (Value v next))
-    go (yes z) = rw (eq-eqb (fault v) 0 z) tt
-    go (no z) = rw (ne-eqb (fault v) 0 z) (omega arith)
+    go (yes z) = simp tests tt
+    go (no z) = simp tests (omega arith)
 
 -- ---- a row
 abbrev RowNumbered : Row → Type 0

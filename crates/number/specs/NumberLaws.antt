@@ -5,9 +5,10 @@ use Prim.Native.Nat.{ℕ, zero, suc, _+_, _*_, _/_, _%_, _≤_, _<_}
 use native.Mathlib.Numerals.{add-one}
 use native.Mathlib.Omega.{arith}
 use native.Mathlib.Decide.{decLt, ℕ-discrete}
-use borrow.Author.Tests.{lt-ltb, le-ltb, le-leb, lt-leb, eq-eqb, ne-eqb}
+use borrow.Author.Tests.{lt-ltb, le-ltb, le-leb, lt-leb, ne-eqb}
 use lib.ListN.{length, getD, drop}
 use lib.Seq.{drop-cons}
+use Rattle.number.specs.TestLaws.{tests}
 use Rattle.number.specs.Number.{groups, written, first, second, third, value}
 use Rattle.number.specs.declared.Cursor.{Cursor}
 use Rattle.number.specs.declared.Number.the-variants.{Refused}
@@ -20,7 +21,7 @@ byte-at bytes i h = rw (add-one, drop-cons bytes i 0)
 -- ---- the bytes of a number
 pub written-one : (n : ℕ) → n < 128 → written n ≡ n ∷ []
 unfolding written
-written-one n h = rw (lt-ltb n 128 h)
+written-one n h = simp tests
 
 pub written-two : (n : ℕ) → 128 ≤ n → n < 16384 → written n ≡ (n % 128 + 128) ∷ (n / 128) ∷ []
 unfolding written
@@ -35,7 +36,7 @@ unfolding written
 written-some n = go (decLt n 128)
   where
     go : Dec (n < 128) → 1 ≤ length (written n)
-    go (yes h) = rw (lt-ltb n 128 h) (omega arith)
+    go (yes h) = simp tests (omega arith)
     go (no h) = rw (le-ltb n 128 (omega arith)) (omega arith)
 
 -- at most k groups
@@ -44,7 +45,7 @@ groups-most zero n = omega arith
 groups-most (suc k) n = go (decLt n 128) (groups-most k (n / 128))
   where
     go : Dec (n < 128) → length (groups k (n / 128)) ≤ k → length (groups (suc k) n) ≤ suc k
-    go (yes h) r = rw (lt-ltb n 128 h) (omega arith)
+    go (yes h) r = simp tests (omega arith)
     go (no h) r = rw (le-ltb n 128 (omega arith)) (omega arith)
 
 pub written-most : (n : ℕ) → length (written n) ≤ 3
@@ -98,9 +99,9 @@ third-stands at a b [] m next ha la hb lb e = absurd (refused-not-value _ m next
 third-stands at a b (c ∷ s) m next ha la hb lb e = go (ℕ-discrete c 0) (decLt c 128) (decLt 65535 (a % 128 + 128 * (b % 128) + 16384 * c))
   where
     go : Dec (c ≡ 0) → Dec (c < 128) → Dec (65535 < a % 128 + 128 * (b % 128) + 16384 * c) → NumberStands at (a ∷ b ∷ c ∷ s) m next
-    go (yes z) d f = absurd (refused-not-value _ m next (rw (eq-eqb c 0 z) at e))
+    go (yes z) d f = absurd (refused-not-value _ m next (simp tests at e))
     go (no z) (no d) f = absurd (refused-not-value _ m next (rw (ne-eqb c 0 z, le-leb 128 c (omega arith)) at e))
-    go (no z) (yes d) (yes f) = absurd (refused-not-value _ m next (rw (ne-eqb c 0 z, lt-leb 128 c d, lt-ltb 65535 _ f) at e))
+    go (no z) (yes d) (yes f) = absurd (refused-not-value _ m next (simp tests at e))
     go (no z) (yes d) (no f) =
         let n : ℕ = a % 128 + 128 * (b % 128) + 16384 * c in
         let i : n % 128 + 128 ≡ a = omega arith in
@@ -119,14 +120,14 @@ second-stands at a [] m next ha la bytes e = absurd (refused-not-value _ m next 
 second-stands at a (b ∷ s) m next ha la bytes e = go (ℕ-discrete b 0) (decLt b 128)
   where
     go : Dec (b ≡ 0) → Dec (b < 128) → NumberStands at (a ∷ b ∷ s) m next
-    go (yes z) d = absurd (refused-not-value _ m next (rw (eq-eqb b 0 z) at e))
+    go (yes z) d = absurd (refused-not-value _ m next (simp tests at e))
     go (no z) (no d) = third-stands at a b s m next ha la (omega arith) (bytes 0) (rw (ne-eqb b 0 z, le-ltb b 128 (omega arith)) at e)
     go (no z) (yes d) =
         let n : ℕ = a % 128 + 128 * b in
         let i : n % 128 + 128 ≡ a = omega arith in
         let j : n / 128 ≡ b = omega arith in
         stands at (a ∷ b ∷ []) s n (at + 2) m next
-        (rw (ne-eqb b 0 z, lt-ltb b 128 d) at e)
+        (simp tests at e)
         (rw (written-two n (omega arith) (omega arith), i, j))
         refl
         (omega arith)
@@ -138,4 +139,4 @@ first-stands at (a ∷ s) m next bytes e = go (decLt a 128)
   where
     go : Dec (a < 128) → NumberStands at (a ∷ s) m next
     go (no d) = second-stands at a s m next (omega arith) (bytes 0) (λ i. bytes (suc i)) (rw (le-ltb a 128 (omega arith)) at e)
-    go (yes d) = stands at (a ∷ []) s a (at + 1) m next (rw (lt-ltb a 128 d) at e) (written-one a d) refl (omega arith)
+    go (yes d) = stands at (a ∷ []) s a (at + 1) m next (simp tests at e) (written-one a d) refl (omega arith)
