@@ -1,9 +1,9 @@
 // The table book: read, checked, written.
 ghost use mathlib.Core.Path.{_≡_};
 ghost use Rattle.book.specs.Book.{ofCells, checked as answered, reading, writing};
-ghost use Rattle.purlquartz.specs.Told.{toldWritten, toldChecked};
-use crate::told::tell_checked;
-use crate::told::tell_written;
+ghost use Rattle.told.specs.Told.{toldWritten, toldChecked};
+use told::tell_checked;
+use told::tell_written;
 
 #[no_mangle]
 pub extern "C" fn purlquartz_read(bytes: &[u8], cells: &mut [u16], answer: &mut [u64; 8])

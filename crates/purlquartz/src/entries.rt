@@ -1,11 +1,11 @@
 // Lists of sentences: checked, their entries by index and one after another, and judged.
 ghost use mathlib.Core.Path.{_≡_};
 ghost use Rattle.lists.specs.List.{listIn, listing, nextAt, nthIn};
-ghost use Rattle.purlquartz.specs.Told.{toldListed, toldEntry, toldNext, JudgeTold};
-use crate::told::tell_entry;
-use crate::told::tell_judged;
-use crate::told::tell_listed;
-use crate::told::tell_next;
+ghost use Rattle.told.specs.Told.{toldListed, toldEntry, toldNext, JudgeTold};
+use told::tell_entry;
+use told::tell_judged;
+use told::tell_listed;
+use told::tell_next;
 
 #[no_mangle]
 pub extern "C" fn purlquartz_check_list(cells: &[u16], list: &[u8], answer: &mut [u64; 8])

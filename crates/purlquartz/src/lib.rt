@@ -4,7 +4,6 @@ mod books;
 mod entries;
 mod pairs;
 mod runs;
-mod told;
 
 pub use books::purlquartz_check;
 pub use books::purlquartz_read;

@@ -1,7 +1,7 @@
 // What sequences reach: one pair, the whole map, the sets.
-ghost use Rattle.purlquartz.specs.Told.{FindTold, MapTold, SetsTold};
-use crate::told::tell_found;
-use crate::told::tell_written;
+ghost use Rattle.told.specs.Told.{FindTold, MapTold, SetsTold};
+use told::tell_found;
+use told::tell_written;
 
 #[no_mangle]
 pub extern "C" fn purlquartz_find(

@@ -1,8 +1,8 @@
 // A run of the machine.
 ghost use mathlib.Core.Path.{_≡_};
 ghost use Rattle.machine.specs.Run.{running};
-ghost use Rattle.purlquartz.specs.Told.{toldRan};
-use crate::told::tell_ran;
+ghost use Rattle.told.specs.Told.{toldRan};
+use told::tell_ran;
 
 #[no_mangle]
 pub extern "C" fn purlquartz_run(

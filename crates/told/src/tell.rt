@@ -1,7 +1,7 @@
-// The answers as eight numbers.
+// Each answer as a kind and its values.
 ghost use mathlib.Core.List.{[], _∷_};
 ghost use mathlib.Core.Path.{_≡_};
-ghost use Rattle.purlquartz.specs.Told.{eight, toldRefusal, toldWritten, toldChecked, kindOf, toldEnded, toldRan, toldFound, toldListed, toldEntry, toldNext, toldWrong, toldJudged};
+ghost use Rattle.told.specs.Told.{eight, toldRefusal, toldWritten, toldChecked, kindOf, toldEnded, toldRan, toldFound, toldListed, toldEntry, toldNext, toldWrong, toldJudged};
 use book::Checked;
 use book::Written;
 use finder::Found;

@@ -1,7 +1,7 @@
--- `purlquartz::told::tell_entry` meets its contract: case by case. Assumes nothing.
+-- `told::tell::tell_entry` meets its contract: case by case. Assumes nothing.
 use borrow.Author.Needs.{needs}
-use Rattle.purlquartz.proofs.told.tell_entry.Statement.{statement}
-use Rattle.purlquartz.proofs.told.tell_entry.Tie as tie
+use Rattle.told.proofs.tell.tell_entry.Statement.{statement}
+use Rattle.told.proofs.tell.tell_entry.Tie as tie
 
 returns : tie.Need-returns
 returns c = rw (c .before .before .e .given .1) (c .tell-refusal .ensures)

@@ -1,7 +1,7 @@
--- `purlquartz::told::tell_listed` meets its contract: case by case. Assumes nothing.
+-- `told::tell::tell_listed` meets its contract: case by case. Assumes nothing.
 use borrow.Author.Needs.{needs}
-use Rattle.purlquartz.proofs.told.tell_listed.Statement.{statement}
-use Rattle.purlquartz.proofs.told.tell_listed.Tie as tie
+use Rattle.told.proofs.tell.tell_listed.Statement.{statement}
+use Rattle.told.proofs.tell.tell_listed.Tie as tie
 
 returns : tie.Need-returns
 returns c = rw (c .before .before .l .given .1) (c .tell-refusal .ensures)

@@ -1,8 +1,8 @@
--- `purlquartz::told::tell_next` meets its contract: case by case. Assumes nothing.
+-- `told::tell::tell_next` meets its contract: case by case. Assumes nothing.
 use mathlib.Core.Path.{refl}
 use borrow.Author.Needs.{needs}
-use Rattle.purlquartz.proofs.told.tell_next.Statement.{statement}
-use Rattle.purlquartz.proofs.told.tell_next.Tie as tie
+use Rattle.told.proofs.tell.tell_next.Statement.{statement}
+use Rattle.told.proofs.tell.tell_next.Tie as tie
 
 returns : tie.Need-returns
 returns c = rw (c .before .n .given .1) refl

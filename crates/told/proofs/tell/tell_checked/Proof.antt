@@ -1,8 +1,8 @@
--- `purlquartz::told::tell_checked` meets its contract: case by case. Assumes nothing.
+-- `told::tell::tell_checked` meets its contract: case by case. Assumes nothing.
 use mathlib.Core.Path.{refl}
 use borrow.Author.Needs.{needs}
-use Rattle.purlquartz.proofs.told.tell_checked.Statement.{statement}
-use Rattle.purlquartz.proofs.told.tell_checked.Tie as tie
+use Rattle.told.proofs.tell.tell_checked.Statement.{statement}
+use Rattle.told.proofs.tell.tell_checked.Tie as tie
 
 enum-known-c : tie.Need-enum-known-c
 enum-known-c c = search needs
