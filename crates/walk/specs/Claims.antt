@@ -81,6 +81,21 @@ pub record Serves (B : Tables) (r : ℕ) (J K : ℕ → List ℕ → ℕ → ℕ
 abbrev pub Arrival : Scale → Tables → Claims → ℕ → ℕ → ℕ → Type 0
 Arrival σ B claim s z v = (a n : ℕ) × Claimed σ B claim 0 a v z n s
 
--- a claimed walk from q with first terminal a to one of the goal pairs
+-- a claimed walk from q with first terminal a to some pair (s, z), and then what is to be done from there, at a cost in K s z
+pub record OnwardTo (σ : Scale) (B : Tables) (claim : Claims) (K : ℕ → ℕ → ℕ → Type 0) (q a v : ℕ) : Type 0 where
+  pub count : ℕ
+  pub state : ℕ
+  pub next : ℕ
+  pub before : ℕ
+  pub after : ℕ
+  pub walk : Claimed σ B claim q a before next count state
+  pub done : K state next after
+  pub sum : v ≡ plus σ before after
+
+-- .. at the cost that a table of weights has, unreached for no goal
+abbrev pub Weighs : (ℕ → ℕ → ℕ) → ℕ → ℕ → ℕ → Type 0
+Weighs weight s z y = y ≡ weight s z
+
+-- .. where at one of the goal pairs nothing is left to do
 abbrev pub Onward : Scale → Tables → Claims → (ℕ → ℕ → Type 0) → ℕ → ℕ → ℕ → Type 0
-Onward σ B claim Goal q a v = (n s z : ℕ) × Goal s z × Claimed σ B claim q a v z n s
+Onward σ B claim Goal = OnwardTo σ B claim (λ s z y. Goal s z × (y ≡ 0))

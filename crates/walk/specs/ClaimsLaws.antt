@@ -1,7 +1,7 @@
 -- Laws of claims: closed claims are at most the true costs, closed and witnessed claims are exact, and so is what is least over them. Assumes nothing.
 use mathlib.Core.List.{List, [], _∷_}
 use mathlib.Core.Logic.{_⊎_, inl, inr, ⊎-elim, ⊎-map, _↔_}
-use mathlib.Core.Path.{_≡_, refl}
+use mathlib.Core.Path.{_≡_, refl, sym, _∙_}
 use Prim.Native.Nat.{ℕ, suc, _+_, _≤_, _<_}
 use native.Mathlib.Nat.{le-trans, le-refl, add-zero, add-suc}
 use native.Mathlib.Omega.{arith}
@@ -9,12 +9,12 @@ use Rattle.book.specs.Tables.{Tables}
 use Rattle.book.specs.TablesLaws.{InRange}
 use Rattle.book.specs.declared.Action.the-variants.{Shift, Reduce}
 use Rattle.machine.specs.Machine.{Reaches}
-use Rattle.walk.specs.Walk.{Walk, here, shifted, crossed, first, Descends, arrives, pops, Gets, GetsTo}
+use Rattle.walk.specs.Walk.{Walk, here, shifted, crossed, WalksTo, first, Descends, arrives, pops, Gets, GetsTo}
 use Rattle.walk.specs.WalkLaws.{Opens, empties, walk-begins, walk-terminal, descends-terminal, reaches-walk, walk-reaches}
 use Rattle.walk.specs.Scale.{Scale, unreached, cap, shiftCost}
 use Rattle.walk.specs.Cost.{cost, plus, Attained, Exact}
-use Rattle.walk.specs.CostLaws.{plus-mono, plus-right-within, plus-bounded, plus-zero, zero-plus, plus-comm, plus-assoc, plus-cost-le, attained-map, attained-plus}
-use Rattle.walk.specs.Claims.{Crosses, Claims, Claimed, none, shifting, crossing, Closed, Witnessed, Least, Arrival, Onward, ClaimedDescends, arriving, popping, ClaimedGets, ClaimedGetsTo, Matches, Serves}
+use Rattle.walk.specs.CostLaws.{plus-mono, plus-far-right, plus-right-within, plus-bounded, plus-zero, zero-plus, plus-comm, plus-assoc, plus-cost-le, attained-map, attained-plus}
+use Rattle.walk.specs.Claims.{Crosses, Claims, Claimed, none, shifting, crossing, Closed, Witnessed, Least, Arrival, OnwardTo, Weighs, Onward, ClaimedDescends, arriving, popping, ClaimedGets, ClaimedGetsTo, Matches, Serves}
 use Rattle.walk.specs.MatchesLaws.{matches-exact}
 
 -- what a transition, and a reduction, make of the cost of some walk is the cost of some walk, and of some crossing
@@ -62,6 +62,12 @@ module _ {σ : Scale} {B : Tables} {claim : Claims} where
   claimed-append {v} c (none h) = rw (plus-zero σ v (claimed-bounded c), add-zero) c
   claimed-append c (shifting z d e h) = rw (← plus-assoc, add-suc) (shifting z (claimed-append c d) e h)
   claimed-append c (crossing X z d g h) = rw (← plus-assoc, add-suc) (crossing X z (claimed-append c d) g h)
+
+  -- from a state it leads to a state
+  pub claimed-state : {q a v z n q′ : ℕ} → InRange B → q < B .states → Claimed σ B claim q a v z n q′ → q′ < B .states
+  claimed-state i h (none j) = h
+  claimed-state i h (shifting {t} {q₁} {q₂} z c e j) = i .shifts q₁ t q₂ e .3
+  claimed-state i h (crossing {q₁} {q₂} X z c g j) = i .gotos q₁ X q₂ g .2
 
   -- one transition in front
   pub claimed-shift : {q a q₁ b v z n q′ : ℕ} → B .act q a ≡ Shift q₁ → a < B .terminals → Claimed σ B claim q₁ b v z n q′ → Claimed σ B claim q a (plus σ (shiftCost σ a) v) z (suc n) q′
@@ -177,13 +183,64 @@ module _ {σ : Scale} {B : Tables} {claim : Claims} {r : ℕ} {J K : ℕ → Lis
       → ((v : ℕ) × (v ≤ r) × ClaimedDescends σ B claim J (q ∷ st) a v) ↔ ((v : ℕ) × (v ≤ r) × ClaimedDescends σ B claim K (q ∷ st) a v)
   serves-iff hq ha = (λ (v, h, x). (v, h, serves-within hq ha h x), λ (v, h, x). let (y, z, m) = serves-lower hq ha h x in (y, le-trans m h, z))
 
+-- claimed walks to a pair and on
+module _ {σ : Scale} {B : Tables} {claim : Claims} {q a : ℕ} where
+  -- to a set of goal pairs
+  pub onward-goal : {Goal : ℕ → ℕ → Type 0} {v n s z : ℕ} → Goal s z → Claimed σ B claim q a v z n s → Onward σ B claim Goal q a v
+  onward-goal {v} {n} {s} {z} j c = record {
+    count = n;
+    state = s;
+    next = z;
+    before = v;
+    after = 0;
+    walk = c;
+    done = (j, refl);
+    sum = sym (plus-zero σ v (claimed-bounded c));
+  }
+
+  pub onward-claimed : {Goal : ℕ → ℕ → Type 0} {v : ℕ} → Onward σ B claim Goal q a v → (n : ℕ) × ((s z : ℕ) × Goal s z × Claimed σ B claim q a v z n s)
+  onward-claimed {v} o =
+      let same : v ≡ o .before = rw (o .done .1, plus-zero σ (o .before) (claimed-bounded (o .walk))) at (o .sum) in
+      (o .count, (o .state, o .next, o .done .0, rw same (o .walk)))
+
+  -- with the least costs of what is to be done as weights, the least is that of doing it
+  pub weights-least : {K : ℕ → ℕ → ℕ → Type 0} {weight : ℕ → ℕ → ℕ} {d : ℕ} → InRange B → q < B .states
+      → ((s z : ℕ) → s < B .states → z < B .terminals → Least σ (K s z) (weight s z)) → Least σ (OnwardTo σ B claim (Weighs weight) q a) d
+      → Least σ (OnwardTo σ B claim K q a) d
+  weights-least {K} {weight} {d} i hq f l = record {
+    below = λ v o. rw (o .sum) (le-trans
+        (l .below _ (to (o .walk)))
+        (plus-mono σ (le-refl (o .before)) (at (o .walk) .below (o .after) (o .done))));
+    attained = ⊎-elim inl (λ o. up o (at (o .walk) .attained)) (l .attained);
+  }
+    where
+      at : {v n s z : ℕ} → Claimed σ B claim q a v z n s → Least σ (K s z) (weight s z)
+      at {s} {z} c = f s z (claimed-state i hq c) (claimed-next c)
+
+      to : {v n s z : ℕ} → Claimed σ B claim q a v z n s → OnwardTo σ B claim (Weighs weight) q a (plus σ v (weight s z))
+      to {v} {n} {s} {z} c = record { count = n; state = s; next = z; before = v; after = weight s z; walk = c; done = refl; sum = refl }
+
+      up : (o : OnwardTo σ B claim (Weighs weight) q a d) → (weight (o .state) (o .next) ≡ unreached σ) ⊎ K (o .state) (o .next) (weight (o .state) (o .next))
+          → (d ≡ unreached σ) ⊎ OnwardTo σ B claim K q a d
+      up o (inl e) = inl (o .sum ∙ plus-far-right σ _ _ (omega (arith, o .done)))
+      up o (inr k) = inr record {
+        count = o .count;
+        state = o .state;
+        next = o .next;
+        before = o .before;
+        after = o .after;
+        walk = o .walk;
+        done = rw (o .done) k;
+        sum = o .sum;
+      }
+
 -- so a table of the least costs to go to the goals serves up to every bound below unreached
 pub least-serves : {σ : Scale} {B : Tables} {claim : Claims} {G : ℕ → ℕ → ℕ} {Goal : ℕ → ℕ → Type 0} {r : ℕ} → r < unreached σ
     → ((q a : ℕ) → q < B .states → a < B .terminals → Least σ (Onward σ B claim Goal q a) (G q a))
     → Serves B r (λ q st a v n. v ≡ G q a) (λ q st a v n. (s z : ℕ) × Goal s z × Claimed σ B claim q a v z n s)
 least-serves {σ} {B} {claim} {G} {Goal} {r} near least = record {
-  lower = λ {q} {a} {v} {n} hq ha h (s, z, j, c). (G q a, 0, refl, least q a hq ha .below v (n, s, z, j, c));
-  within = λ {q} {a} {v} hq ha h e. ⊎-elim (λ u. absurd (omega (arith, u))) (λ (n, s, z, j, c). (n, (s, z, j, rw (← e) at c))) (least q a hq ha .attained);
+  lower = λ {q} {a} {v} {n} hq ha h (s, z, j, c). (G q a, 0, refl, least q a hq ha .below v (onward-goal j c));
+  within = λ {q} {a} {v} hq ha h e. ⊎-elim (λ u. absurd (omega (arith, u))) (λ o. onward-claimed (rw (← e) at o)) (least q a hq ha .attained);
 }
 
 module _ {σ : Scale} {B : Tables} {claim : Claims} (i : InRange B) (c : Closed σ B claim) where
@@ -215,17 +272,23 @@ module _ {σ : Scale} {B : Tables} {claim : Claims} (i : InRange B) (c : Closed 
     pub start-exact : {s z d : ℕ} → z < B .terminals → Least σ (Arrival σ B claim s z) d → Exact σ (λ w. Reaches B w z s) d
     start-exact h l = matches-exact (start-matches h) l
 
-    -- (vi) those to a set of goal pairs
-    pub goal-matches : {Goal : ℕ → ℕ → Type 0} {q a : ℕ} → ((s z : ℕ) → Goal s z → z < B .terminals)
-        → Matches σ (Onward σ B claim Goal q a) (λ w. (n s z : ℕ) × Goal s z × Walk B q a w z n s)
-    goal-matches t = record {
-      below = λ w (n, s, z, h, r). let (v, x, j) = closed-below i c (t s z h) r in (v, (n, s, z, h, x), j);
-      above = λ v (n, s, z, h, r). attained-map σ (λ w x. (n, s, z, h, x)) (witnessed-above k r);
+    -- (vi) those to some pair and on, where what is claimed from there stands for words
+    pub onward-matches : {K : ℕ → ℕ → ℕ → Type 0} {P : ℕ → ℕ → List ℕ → Type 0} {q a : ℕ} → q < B .states
+        → ((s z : ℕ) → s < B .states → z < B .terminals → Matches σ (K s z) (P s z)) → Matches σ (OnwardTo σ B claim K q a) (WalksTo B P q a)
+    onward-matches {K} {P} {q} {a} hq f = record {
+      below = λ w x. let (u, r, j) = closed-below i c (x .terminal) (x .walk) in let (y, m, l) = at r .below (x .rest) (x .done) in (
+        plus σ u y,
+        record { count = x .count; state = x .state; next = x .next; before = u; after = y; walk = r; done = m; sum = refl },
+        rw (x .whole) (plus-cost-le σ (x .front) (x .rest) j l),
+      );
+      above = λ v o. rw (o .sum) (attained-plus σ
+          (λ u y r p. record { count = o .count; state = o .state; next = o .next; front = u; rest = y; walk = r; terminal = claimed-next (o .walk); done = p; whole = refl })
+          (witnessed-above k (o .walk))
+          (at (o .walk) .above (o .after) (o .done)));
     }
-
-    pub goal-exact : {Goal : ℕ → ℕ → Type 0} {q a d : ℕ} → ((s z : ℕ) → Goal s z → z < B .terminals) → Least σ (Onward σ B claim Goal q a) d
-        → Exact σ (λ w. (n s z : ℕ) × Goal s z × Walk B q a w z n s) d
-    goal-exact t l = matches-exact (goal-matches t) l
+      where
+        at : {v n s z : ℕ} → Claimed σ B claim q a v z n s → Matches σ (K s z) (P s z)
+        at {s} {z} r = f s z (claimed-state i hq r) (claimed-next r)
 
     -- (vii) what is claimed from a stack, where the ends match
     pub descends-matches : {K : ℕ → List ℕ → ℕ → ℕ → ℕ → Type 0} {E : ℕ → List ℕ → ℕ → List ℕ → ℕ → Type 0} {a : ℕ} {st : List ℕ}

@@ -1,4 +1,4 @@
--- Tables of costs by state and terminal over the claims: layers, distances from the start, distances to a set of pairs. Assumes nothing.
+-- Tables of costs by state and terminal over the claims: layers, distances from the start, costs to go to pairs with weights. Assumes nothing.
 use mathlib.Core.Logic.{_⊎_}
 use mathlib.Core.Path.{_≡_}
 use Prim.Native.Nat.{ℕ, suc, _≤_, _<_}
@@ -6,7 +6,7 @@ use Rattle.book.specs.Tables.{Tables}
 use Rattle.book.specs.declared.Action.the-variants.{Shift}
 use Rattle.walk.specs.Scale.{Scale, unreached, shiftCost}
 use Rattle.walk.specs.Cost.{plus, cut}
-use Rattle.walk.specs.Claims.{Claims, Claimed, Least, LeastWhere, Arrival, Onward}
+use Rattle.walk.specs.Claims.{Claims, Claimed, Least, LeastWhere, Arrival, OnwardTo, Weighs}
 
 -- L has a cost for each state and next terminal; Longer σ B claim L q z v: from there one transition more leads to (q, z), at the cost v
 pub data Longer (σ : Scale) (B : Tables) (claim : Claims) (L : ℕ → ℕ → ℕ) : ℕ → ℕ → ℕ → Type 0 where
@@ -50,8 +50,8 @@ pub record FromStart (σ : Scale) (B : Tables) (claim : Claims) (D : ℕ → ℕ
   pub closed : (q z v : ℕ) → Longer σ B claim D q z v → D q z ≤ v
   pub attained : (q z : ℕ) → z < B .terminals → (D q z ≡ unreached σ) ⊎ Arrival σ B claim q z (D q z)
 
--- what passes over a table of distances to the goal pairs end with
-pub record ToGoal (σ : Scale) (B : Tables) (claim : Claims) (Goal : ℕ → ℕ → Type 0) (G : ℕ → ℕ → ℕ) : Type 0 where
-  pub goal : (s z : ℕ) → Goal s z → z < B .terminals → G s z ≤ 0
+-- what passes over a table of costs to go, which begins with the weights, end with
+pub record ToGoal (σ : Scale) (B : Tables) (claim : Claims) (weight G : ℕ → ℕ → ℕ) : Type 0 where
+  pub goal : (s z : ℕ) → z < B .terminals → G s z ≤ weight s z
   pub closed : (q a v : ℕ) → a < B .terminals → Sooner σ B claim G q a v → G q a ≤ v
-  pub attained : (q a : ℕ) → a < B .terminals → (G q a ≡ unreached σ) ⊎ Onward σ B claim Goal q a (G q a)
+  pub attained : (q a : ℕ) → a < B .terminals → (G q a ≡ unreached σ) ⊎ OnwardTo σ B claim (Weighs weight) q a (G q a)

@@ -9,8 +9,8 @@ use Rattle.book.specs.Tables.{Tables}
 use Rattle.walk.specs.Walk.{Walk}
 use Rattle.walk.specs.Scale.{Scale, long, unreached, shiftCost}
 use Rattle.walk.specs.Cost.{plus, cut, Attained}
-use Rattle.walk.specs.CostLaws.{plus-mono, plus-far-left, plus-left-le, cut-within, cut-beyond, plus-cut}
-use Rattle.walk.specs.Claims.{Claims, Claimed, none, shifting, crossing, Witnessed, Least, LeastWhere, Arrival, Onward}
+use Rattle.walk.specs.CostLaws.{plus-mono, plus-assoc, plus-bounded, zero-plus, plus-far-left, plus-left-le, cut-within, cut-beyond, plus-cut}
+use Rattle.walk.specs.Claims.{Claims, Claimed, none, shifting, crossing, Witnessed, Least, LeastWhere, Arrival, OnwardTo, Weighs}
 use Rattle.walk.specs.ClaimsLaws.{attained-shift, attained-cross, claimed-next, claimed-bounded, claimed-terminal, Start, nowhere, shift-first, goto-first, claimed-start}
 use Rattle.walk.specs.Layers.{Longer, add-shift, add-goto, from-shift, from-goto, Layer, LayerWhere, LayerWithin, cutAt, Leads, by-shift, by-goto, Hereditary, FromStart, ToGoal}
 
@@ -92,11 +92,16 @@ module _ {σ : Scale} {B : Tables} {claim : Claims} where
     pub start-least : {s z : ℕ} → z < B .terminals → Least σ (Arrival σ B claim s z) (D s z)
     start-least {s} {z} h = record { below = λ x (a, n, c). start-below refl c; attained = f .attained s z h }
 
-  module _ {Goal : ℕ → ℕ → Type 0} {G : ℕ → ℕ → ℕ} (f : ToGoal σ B claim Goal G) where
-    goal-below : {q a v z s : ℕ} (n : ℕ) → Goal s z → a < B .terminals → Start σ B claim q a v z n s → G q a ≤ v
-    goal-below {z} {s} zero j h nowhere = f .goal s z j h
-    goal-below (suc n) j h (shift-first {b} e c) = le-trans (f .closed _ _ _ h (from-shift b e (claimed-terminal c))) (plus-mono σ (le-refl _) (goal-below n j (claimed-terminal c) (claimed-start c)))
-    goal-below (suc n) j h (goto-first {b} X g c) = le-trans (f .closed _ _ _ h (from-goto X b g (claimed-terminal c))) (plus-mono σ (le-refl _) (goal-below n j (claimed-terminal c) (claimed-start c)))
+  module _ {weight G : ℕ → ℕ → ℕ} (f : ToGoal σ B claim weight G) where
+    goal-most : (q a : ℕ) → a < B .terminals → G q a ≤ unreached σ
+    goal-most q a h = ⊎-elim (λ e. omega arith) (λ o. rw (o .sum) (plus-bounded σ _ _)) (f .attained q a h)
 
-    pub goal-least : {q a : ℕ} → a < B .terminals → Least σ (Onward σ B claim Goal q a) (G q a)
-    goal-least {q} {a} h = record { below = λ x (n, s, z, j, c). goal-below n j h (claimed-start c); attained = f .attained q a h }
+    goal-below : {q a v z s : ℕ} (n : ℕ) → a < B .terminals → Start σ B claim q a v z n s → G q a ≤ plus σ v (weight s z)
+    goal-below {q} {a} zero h nowhere = omega (arith, zero-plus σ (G q a) (goal-most q a h), plus-mono σ (le-refl 0) (f .goal q a h))
+    goal-below (suc n) h (shift-first {b} e c) =
+        rw plus-assoc (le-trans (f .closed _ _ _ h (from-shift b e (claimed-terminal c))) (plus-mono σ (le-refl _) (goal-below n (claimed-terminal c) (claimed-start c))))
+    goal-below (suc n) h (goto-first {b} X g c) =
+        rw plus-assoc (le-trans (f .closed _ _ _ h (from-goto X b g (claimed-terminal c))) (plus-mono σ (le-refl _) (goal-below n (claimed-terminal c) (claimed-start c))))
+
+    pub goal-least : {q a : ℕ} → a < B .terminals → Least σ (OnwardTo σ B claim (Weighs weight) q a) (G q a)
+    goal-least {q} {a} h = record { below = λ v o. rw (o .sum, o .done) (goal-below (o .count) h (claimed-start (o .walk))); attained = f .attained q a h }

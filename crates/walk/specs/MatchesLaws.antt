@@ -1,7 +1,7 @@
 -- Laws of claimed costs that stand for words: the least is exact, and back; a bound on them is one on words. Assumes nothing.
 use mathlib.Core.List.{List}
 use mathlib.Core.Logic.{inl, inr, ⊎-elim, _↔_}
-use mathlib.Core.Path.{_≡_, subst}
+use mathlib.Core.Path.{_≡_, refl, subst}
 use Prim.Native.Nat.{ℕ, _≤_}
 use native.Mathlib.Nat.{le-trans}
 use native.Mathlib.Omega.{arith}
@@ -42,6 +42,10 @@ module _ {σ : Scale} {K : ℕ → Type 0} {P : List ℕ → Type 0} where
       λ (v, h, k). ⊎-elim (λ e. absurd (omega (arith, h))) (λ (w, p, e). (w, omega (arith, h), p)) (m .above v k),
       λ (w, h, p). let (v, k, j) = m .below w p in (v, omega (arith, h), k),
     )
+
+-- the least cost of words stands for them
+pub exact-matches : {σ : Scale} {P : List ℕ → Type 0} {d : ℕ} → Exact σ P d → Matches σ (λ v. v ≡ d) P
+exact-matches {d} e = record { below = λ w p. (d, refl, e .least w p); above = λ v i. rw i (e .attained) }
 
 -- the same words
 pub matches-map : {σ : Scale} {K : ℕ → Type 0} {P Q : List ℕ → Type 0} → ((w : List ℕ) → P w ↔ Q w) → Matches σ K P → Matches σ K Q

@@ -1,7 +1,7 @@
 -- Walks: what the machine does from a state by transitions alone, and what it can reach from any stack. Assumes nothing.
 use mathlib.Core.Path.{_≡_}
 use mathlib.Core.List.{List, [], _∷_, _++_}
-use Prim.Native.Nat.{ℕ, suc, _+_}
+use Prim.Native.Nat.{ℕ, suc, _+_, _<_}
 use lib.ListN.{drop}
 use Rattle.book.specs.Tables.{Tables}
 use Rattle.book.specs.declared.Action.the-variants.{Shift, Reduce}
@@ -14,6 +14,18 @@ pub data Walk (B : Tables) : ℕ → ℕ → List ℕ → ℕ → ℕ → ℕ �
   shifted : {q a t n q₁ q₂ : ℕ} {w : List ℕ} (z : ℕ) → Walk B q a w t n q₁ → B .act q₁ t ≡ Shift q₂ → Walk B q a (w ++ (t ∷ [])) z (suc n) q₂
   crossed : {q a b z n q₁ m q₂ p q₃ : ℕ} {w v : List ℕ} → Walk B q a w b n q₁ → Walk B q₁ b v z m q₂
       → B .act q₂ z ≡ Reduce p → B .len p ≡ m → B .goto q₁ (B .lhs p) ≡ suc q₃ → Walk B q a (w ++ v) z (suc n) q₃
+
+-- a walk from q with first terminal a takes in the front of w and leads to some pair (s, z), and P s z holds of the rest
+pub record WalksTo (B : Tables) (P : ℕ → ℕ → List ℕ → Type 0) (q a : ℕ) (w : List ℕ) : Type 0 where
+  pub count : ℕ
+  pub state : ℕ
+  pub next : ℕ
+  pub front : List ℕ
+  pub rest : List ℕ
+  pub walk : Walk B q a front next count state
+  pub terminal : next < B .terminals
+  pub done : P state next rest
+  pub whole : w ≡ front ++ rest
 
 -- the first terminal of w z
 unfoldable pub first : List ℕ → ℕ → ℕ
