@@ -1,4 +1,4 @@
--- Laws of the distances to goal pairs: what one transition makes of them, and that they are exact where it makes nothing less. Assumes nothing.
+-- Laws of the distances to pairs with weights: what one transition makes of them, and that they are the least where it makes nothing less. Assumes nothing.
 use mathlib.Core.List.{List}
 use mathlib.Core.Logic.{_⊎_, inl, inr, ⊎-elim}
 use mathlib.Core.Path.{_≡_, refl, sym, _∙_}
@@ -12,11 +12,14 @@ use Rattle.book.specs.Tables.{Tables, tablesOf}
 use Rattle.book.specs.TablesLaws.{Holds, in-range, goto-some}
 use Rattle.book.specs.declared.Action.the-variants.{Shift}
 use Rattle.book.specs.declared.Sizes.{Sizes}
+use Rattle.walk.specs.Walk.{WalksTo}
 use Rattle.walk.specs.WalkLaws.{Opens, shifts}
 use Rattle.walk.specs.Scale.{Scale, unreached, shiftCost}
-use Rattle.walk.specs.CostLaws.{plus-zero, plus-far-left, plus-far-right}
-use Rattle.walk.specs.Claims.{Claims, Onward}
-use Rattle.walk.specs.ClaimsLaws.{claimed-bounded, claimed-next, goal-exact}
+use Rattle.walk.specs.Cost.{Exact}
+use Rattle.walk.specs.CostLaws.{plus-far-left, plus-far-right}
+use Rattle.walk.specs.Claims.{Claims, Least, Weighs}
+use Rattle.walk.specs.MatchesLaws.{matches-exact, exact-matches}
+use Rattle.walk.specs.ClaimsLaws.{weights-least, onward-matches}
 use Rattle.walk.specs.Layers.{Sooner, from-shift, from-goto, ToGoal}
 use Rattle.walk.specs.LayersLaws.{goal-least}
 use Rattle.layers.specs.Crossing.{crossingRow, claimIn, Quiet}
@@ -26,9 +29,9 @@ use Rattle.layers.specs.Step.{TableStep, Upto}
 use Rattle.layers.specs.StepLaws.{step-none, step-as}
 use Rattle.crossings.specs.Crossings.{CrossingTable}
 use Rattle.crossings.specs.Falling.{Stored, kept, stored, Each}
-use Rattle.distances.specs.Distances.{distanceIn, Goals, GoalIn, GoalTable}
+use Rattle.distances.specs.Distances.{distanceIn, Bounded, GoalTable}
 use Rattle.distances.specs.DistancesLaws.{distance-entry, distance-out, distance-other}
-use Rattle.distances.specs.Pass.{Bounded, Marked, From, Drawn, Lessened, LessenedUpto, PastShift, PastGoto, TowardShift, by-shift, TowardGoto, by-goto, LeastApproach}
+use Rattle.distances.specs.Pass.{Marked, Drawn, Lessened, LessenedUpto, PastShift, PastGoto, TowardShift, by-shift, TowardGoto, by-goto, LeastApproach}
 use Rattle.distances.specs.TableLaws.{table-closed, table-witnessed}
 
 -- the least of v and one candidate
@@ -155,48 +158,36 @@ pub nearest-back : (σ : Scale) (B : Tables) (claim : Claims) (t s : ℕ) (l : L
     → Each (λ q. Each (λ a l. LeastApproach σ B claim q a (distanceIn σ l)) t) s l
 nearest-back σ B claim t s l f q h a ha = let i : s - 1 - (s - 1 - q) ≡ q = omega arith in rw i at (f (s - 1 - q) (omega arith) a ha)
 
--- the set of goal pairs is bounded
-pub goals-bounded : {σ : Scale} {t : ℕ} {goals : List ℕ} → t ≤ 32 → Goals σ goals → Bounded σ t goals
-goals-bounded {σ} {t} {goals} small k = record { size = k .size; most = λ q z hz. most q z hz (decLt q 128) }
-  where
-    most : (q z : ℕ) → z < t → Dec (q < 128) → distanceIn σ goals q z ≤ unreached σ
-    most q z hz (yes l) = rw (distance-entry σ goals q z l) (⊎-elim (λ e. omega arith) (λ e. omega arith) (k .marks q z l (omega arith)))
-    most q z hz (no l) = le-of-eq (distance-out σ goals q z (omega arith))
-
-module _ {σ : Scale} {d : Sizes} {cells table goals : List ℕ} (h : Holds d cells) (t : CrossingTable σ d cells table) (k : Goals σ goals) where
-  drawn-onward : (q a w : ℕ) → From σ (tablesOf cells) (claimIn d table) (distanceIn σ goals) q a w
-      → (w ≡ unreached σ) ⊎ Onward σ (tablesOf cells) (claimIn d table) (GoalIn d goals) q a w
-  drawn-onward q a w x = go (decLt (x .state) 128)
-    where
-      terminal : x .next < d .t
-      terminal = rw (terminals-are h) at (claimed-next (x .walk))
-
-      at : x .state < 128 → (entryIn goals (x .state) (x .next) ≡ 0) ⊎ (entryIn goals (x .state) (x .next) ≡ unreached σ)
-          → (w ≡ unreached σ) ⊎ Onward σ (tablesOf cells) (claimIn d table) (GoalIn d goals) q a w
-      at l (inl e) =
-          let same : w ≡ x .before = rw (distance-entry σ goals (x .state) (x .next) l, e, plus-zero σ (x .before) (claimed-bounded (x .walk))) at (x .sum) in
-          inr (x .count, x .state, x .next, record { state = l; terminal = terminal; mark = e }, rw same (x .walk))
-      at l (inr e) = inl (rw (distance-entry σ goals (x .state) (x .next) l) at (x .sum) ∙ plus-far-right σ _ _ (omega arith))
-
-      go : Dec (x .state < 128) → (w ≡ unreached σ) ⊎ Onward σ (tablesOf cells) (claimIn d table) (GoalIn d goals) q a w
-      go (yes l) = at l (k .marks (x .state) (x .next) l (omega (arith, terminal, h .small .terminals)))
-      go (no l) = inl (x .sum ∙ plus-far-right σ _ _ (omega (arith, distance-out σ goals (x .state) (x .next) (omega arith))))
-
-  pub goal-table : {dist : List ℕ} → Drawn σ (tablesOf cells) (claimIn d table) goals dist
-      → Each (λ q. Each (λ a l. LeastApproach σ (tablesOf cells) (claimIn d table) q a (distanceIn σ l)) (d .t)) (d .s) dist → GoalTable σ d cells goals dist
+module _ {σ : Scale} {d : Sizes} {cells table weights : List ℕ} (h : Holds d cells) where
+  -- what is drawn from the weights, and approached by no transition, is the table
+  pub goal-table : {dist : List ℕ} → Drawn σ (tablesOf cells) (claimIn d table) weights dist
+      → Each (λ q. Each (λ a l. LeastApproach σ (tablesOf cells) (claimIn d table) q a (distanceIn σ l)) (d .t)) (d .s) dist → GoalTable σ d cells table weights dist
   goal-table {dist} w near = record {
     size = w .bounded .size;
-    exact = λ q a hq ha. rw (← distance-entry σ dist q a (omega (arith, h .small .states)))
-        (goal-exact (in-range h) (table-closed h t) (table-witnessed h t) (λ s z g. rw (terminals-are h) (g .terminal)) (goal-least end (rw (terminals-are h) ha)));
+    least = λ q a hq ha. rw (← distance-entry σ dist q a (omega (arith, h .small .states)))
+        (weights-least (in-range h) (rw (states-are h) hq) (λ s z hs hz. entry s z (rw (states-are h) at hs)) (goal-least end (rw (terminals-are h) ha)));
   }
     where
+      entry : (s z : ℕ) → s < d .s → Least σ (Weighs (entryIn weights) s z) (distanceIn σ weights s z)
+      entry s z hs =
+          let e = distance-entry σ weights s z (omega (arith, h .small .states)) in
+          record { below = λ y i. le-of-eq (e ∙ sym i); attained = inr e }
+
       sooner-range : {q a v : ℕ} → Sooner σ (tablesOf cells) (claimIn d table) (distanceIn σ dist) q a v → q < d .s
       sooner-range {q} {a} (from-shift {q₁} b e hb) = rw (states-are h) at (in-range h .shifts q a q₁ e .0)
       sooner-range {q} (from-goto {q₁} X b g hb) = goto-some h q X q₁ g .0
 
-      end : ToGoal σ (tablesOf cells) (claimIn d table) (GoalIn d goals) (distanceIn σ dist)
+      end : ToGoal σ (tablesOf cells) (claimIn d table) (distanceIn σ weights) (distanceIn σ dist)
       end = record {
-        goal = λ s z g hz. le-trans (w .fall s z hz) (rw (distance-entry σ goals s z (g .state)) (le-of-eq (g .mark)));
+        goal = w .fall;
         closed = λ q a v ha x. near q (sooner-range x) a (rw (terminals-are h) at ha) .bound x;
-        attained = λ q a ha. ⊎-elim inl (λ x. drawn-onward q a _ x) (w .drawn q a ha);
+        attained = w .drawn;
       }
+
+  -- in words: where each weight is the least cost of the words in P, those of a walk to any pair and then in P
+  pub goal-words : {dist : List ℕ} {P : ℕ → ℕ → List ℕ → Type 0} → CrossingTable σ d cells table → GoalTable σ d cells table weights dist
+      → ((s z : ℕ) → s < d .s → z < d .t → Exact σ (P s z) (entryIn weights s z)) → (q a : ℕ) → q < d .s → a < d .t
+      → Exact σ (WalksTo (tablesOf cells) P q a) (entryIn dist q a)
+  goal-words t g f q a hq ha = matches-exact
+      (onward-matches (in-range h) (table-closed h t) (table-witnessed h t) (rw (states-are h) hq) (λ s z hs hz. exact-matches (f s z (rw (states-are h) at hs) (rw (terminals-are h) at hz))))
+      (g .least q a hq ha)

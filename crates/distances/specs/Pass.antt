@@ -9,12 +9,12 @@ use Rattle.book.specs.declared.Action.the-variants.{Shift}
 use Rattle.book.specs.declared.Sizes.{Sizes}
 use Rattle.walk.specs.Scale.{Scale, unreached, shiftCost}
 use Rattle.walk.specs.Cost.{plus}
-use Rattle.walk.specs.Claims.{Claims, Claimed, Arrival}
+use Rattle.walk.specs.Claims.{Claims, Arrival, OnwardTo, Weighs}
 use Rattle.walk.specs.Layers.{Sooner}
 use Rattle.layers.specs.Layer.{entryIn}
 use Rattle.layers.specs.Step.{TableStep, Upto}
 use Rattle.crossings.specs.Falling.{Fallen}
-use Rattle.distances.specs.Distances.{distanceIn}
+use Rattle.distances.specs.Distances.{distanceIn, Bounded}
 
 -- entries are lowered to candidates in P
 pub record Merged (σ : Scale) (P : ℕ → ℕ → ℕ → Type 0) (n : ℕ) (old new : List ℕ) : Type 0 where
@@ -33,30 +33,16 @@ pub record Arrived (σ : Scale) (B : Tables) (claim : Claims) (dist : List ℕ) 
   pub most : (q z : ℕ) → z < B .terminals → distanceIn σ dist q z ≤ unreached σ
   pub attained : (q z : ℕ) → z < B .terminals → (distanceIn σ dist q z ≡ unreached σ) ⊎ Arrival σ B claim q z (distanceIn σ dist q z)
 
--- no distance is more than unreached
-pub record Bounded (σ : Scale) (t : ℕ) (dist : List ℕ) : Type 0 where
-  pub size : length dist ≡ 4096
-  pub most : (q z : ℕ) → z < t → distanceIn σ dist q z ≤ unreached σ
-
 -- a state whose flag is off has no distance below unreached
 pub record Marked (σ : Scale) (t : ℕ) (flags dist : List ℕ) : Type 0 where
   pub count : length flags ≡ 128
   pub off : (q z : ℕ) → z < t → getD flags q 0 ≡ 0 → distanceIn σ dist q z ≡ unreached σ
 
--- w is what a claimed walk from (q, a) to a pair costs, with the cost that G has there
-pub record From (σ : Scale) (B : Tables) (claim : Claims) (G : ℕ → ℕ → ℕ) (q a w : ℕ) : Type 0 where
-  pub count : ℕ
-  pub state : ℕ
-  pub next : ℕ
-  pub before : ℕ
-  pub walk : Claimed σ B claim q a before next count state
-  pub sum : w ≡ plus σ before (G state next)
-
--- distances to goals only fall, to what walks to the old ones cost
+-- distances to goals only fall, to what walks cost together with the old ones
 pub record Drawn (σ : Scale) (B : Tables) (claim : Claims) (old new : List ℕ) : Type 0 where
   pub bounded : Bounded σ (B .terminals) new
   pub fall : (q a : ℕ) → a < B .terminals → distanceIn σ new q a ≤ distanceIn σ old q a
-  pub drawn : (q a : ℕ) → a < B .terminals → (distanceIn σ new q a ≡ unreached σ) ⊎ From σ B claim (distanceIn σ old) q a (distanceIn σ new q a)
+  pub drawn : (q a : ℕ) → a < B .terminals → (distanceIn σ new q a ≡ unreached σ) ⊎ OnwardTo σ B claim (Weighs (distanceIn σ old)) q a (distanceIn σ new q a)
 
 -- r is the least of v and those of the candidates in P that are below unreached
 abbrev pub Lessened : Scale → (ℕ → Type 0) → ℕ → ℕ → Type 0

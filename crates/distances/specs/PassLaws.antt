@@ -12,16 +12,16 @@ use Rattle.book.specs.Tables.{Tables}
 use Rattle.walk.specs.Scale.{Scale, unreached, shiftCost}
 use Rattle.walk.specs.Cost.{plus}
 use Rattle.walk.specs.CostLaws.{plus-zero, zero-plus, plus-assoc, plus-far-right}
-use Rattle.walk.specs.Claims.{Claims, none}
+use Rattle.walk.specs.Claims.{Claims, none, OnwardTo, Weighs}
 use Rattle.walk.specs.ClaimsLaws.{claimed-next, claimed-append, claimed-shift, claimed-goto}
 use Rattle.walk.specs.Layers.{Sooner, from-shift, from-goto}
 use Rattle.layers.specs.Step.{Upto}
 use Rattle.layers.specs.StepLaws.{step-zero, step-more, step-least, step-none}
 use Rattle.crossings.specs.Falling.{Stored, kept, stored, Pass}
 use Rattle.crossings.specs.FallingLaws.{fallen-none, fallen-set, fallen-join, pass-none}
-use Rattle.distances.specs.Distances.{distanceIn}
+use Rattle.distances.specs.Distances.{distanceIn, Bounded}
 use Rattle.distances.specs.DistancesLaws.{distance-read, distance-same, distance-other}
-use Rattle.distances.specs.Pass.{Merged, Bounded, From, Drawn}
+use Rattle.distances.specs.Pass.{Merged, Drawn}
 
 -- ---- entries lowered to those of a layer
 pub merged-none : {σ : Scale} {P : ℕ → ℕ → ℕ → Type 0} {l : List ℕ} → length l ≡ 4096 → ((q z w : ℕ) → P q z w → z < 32 → w < unreached σ → ⊥) → Merged σ P 0 l l
@@ -66,7 +66,9 @@ module _ {σ : Scale} {B : Tables} {claim : Claims} where
       state = q;
       next = a;
       before = 0;
+      after = distanceIn σ l q a;
       walk = none h;
+      done = refl;
       sum = sym (zero-plus σ (distanceIn σ l q a) (b .most q a h));
     };
   }
@@ -78,32 +80,36 @@ module _ {σ : Scale} {B : Tables} {claim : Claims} where
     drawn = λ q a h. first q a (g .drawn q a h);
   }
     where
-      second : (q a w : ℕ) (x : From σ B claim (distanceIn σ m) q a w)
-          → (distanceIn σ m (x .state) (x .next) ≡ unreached σ) ⊎ From σ B claim (distanceIn σ l) (x .state) (x .next) (distanceIn σ m (x .state) (x .next))
-          → (w ≡ unreached σ) ⊎ From σ B claim (distanceIn σ l) q a w
-      second q a w x (inl e) = inl (x .sum ∙ plus-far-right σ _ _ (omega arith))
+      second : (q a w : ℕ) (x : OnwardTo σ B claim (Weighs (distanceIn σ m)) q a w)
+          → (distanceIn σ m (x .state) (x .next) ≡ unreached σ) ⊎ OnwardTo σ B claim (Weighs (distanceIn σ l)) (x .state) (x .next) (distanceIn σ m (x .state) (x .next))
+          → (w ≡ unreached σ) ⊎ OnwardTo σ B claim (Weighs (distanceIn σ l)) q a w
+      second q a w x (inl e) = inl (x .sum ∙ plus-far-right σ _ _ (omega (arith, x .done)))
       second q a w x (inr y) = inr record {
         count = x .count + y .count;
         state = y .state;
         next = y .next;
         before = plus σ (x .before) (y .before);
+        after = y .after;
         walk = claimed-append (x .walk) (y .walk);
-        sum = rw (plus-assoc, ← y .sum) (x .sum);
+        done = y .done;
+        sum = rw (plus-assoc, ← y .sum, ← x .done) (x .sum);
       }
 
-      first : (q a : ℕ) → (distanceIn σ k q a ≡ unreached σ) ⊎ From σ B claim (distanceIn σ m) q a (distanceIn σ k q a)
-          → (distanceIn σ k q a ≡ unreached σ) ⊎ From σ B claim (distanceIn σ l) q a (distanceIn σ k q a)
+      first : (q a : ℕ) → (distanceIn σ k q a ≡ unreached σ) ⊎ OnwardTo σ B claim (Weighs (distanceIn σ m)) q a (distanceIn σ k q a)
+          → (distanceIn σ k q a ≡ unreached σ) ⊎ OnwardTo σ B claim (Weighs (distanceIn σ l)) q a (distanceIn σ k q a)
       first q a (inl e) = inl e
       first q a (inr x) = second q a _ x (f .drawn (x .state) (x .next) (claimed-next (x .walk)))
 
   -- what one transition makes of distances is drawn from them
-  from-sooner : {l : List ℕ} {q a v : ℕ} → Bounded σ (B .terminals) l → a < B .terminals → Sooner σ B claim (distanceIn σ l) q a v → From σ B claim (distanceIn σ l) q a v
+  from-sooner : {l : List ℕ} {q a v : ℕ} → Bounded σ (B .terminals) l → a < B .terminals → Sooner σ B claim (distanceIn σ l) q a v → OnwardTo σ B claim (Weighs (distanceIn σ l)) q a v
   from-sooner {l} {q} {a} b ha (from-shift {q₁} c e h) = record {
     count = 1;
     state = q₁;
     next = c;
     before = plus σ (shiftCost σ a) 0;
+    after = distanceIn σ l q₁ c;
     walk = claimed-shift e ha (none h);
+    done = refl;
     sum = rw (plus-zero σ (shiftCost σ a) (omega arith)) refl;
   }
   from-sooner {l} {q} {a} b ha (from-goto {q₁} X c g h) = record {
@@ -111,7 +117,9 @@ module _ {σ : Scale} {B : Tables} {claim : Claims} where
     state = q₁;
     next = c;
     before = plus σ (claim q X a c) 0;
+    after = distanceIn σ l q₁ c;
     walk = claimed-goto X g ha (none h);
+    done = refl;
     sum = rw (plus-assoc, zero-plus σ (distanceIn σ l q₁ c) (b .most q₁ c h)) refl;
   }
 
@@ -141,7 +149,7 @@ module _ {σ : Scale} {B : Tables} {claim : Claims} where
       fall q′ z h (no i) j = rw (other q′ z h (λ e f. i e)) (le-refl _)
 
       drawn : (q′ z : ℕ) → z < B .terminals → Dec (q′ ≡ q) → Dec (z ≡ a)
-          → (distanceIn σ (set l (q * 32 + a) v) q′ z ≡ unreached σ) ⊎ From σ B claim (distanceIn σ l) q′ z (distanceIn σ (set l (q * 32 + a) v) q′ z)
+          → (distanceIn σ (set l (q * 32 + a) v) q′ z ≡ unreached σ) ⊎ OnwardTo σ B claim (Weighs (distanceIn σ l)) q′ z (distanceIn σ (set l (q * 32 + a) v) q′ z)
       drawn q′ z h (yes i) (yes j) = rw (i, j, at) (⊎-map (λ e. e) (λ s. from-sooner b ha s) x)
       drawn q′ z h (yes i) (no j) = rw (other q′ z h (λ e f. j f)) (same .drawn q′ z h)
       drawn q′ z h (no i) j = rw (other q′ z h (λ e f. i e)) (same .drawn q′ z h)

@@ -1,4 +1,4 @@
-// Distances: from the start to every pair, and from every pair to a set of goal pairs.
+// Distances: from the start to every pair, and from every pair on to pairs that have weights.
 mod single_goal;
 mod start;
 mod to_goals;
