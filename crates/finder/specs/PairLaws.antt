@@ -1,32 +1,30 @@
 -- Laws of one pair as a goal: the least cost to go from the start is the least length of the words that reach it. Assumes nothing.
 use mathlib.Core.List.{List}
-use mathlib.Core.Logic.{_⊎_, inl, inr, ⊎-elim, _↔_}
+use mathlib.Core.Logic.{_⊎_, inl, inr, ⊎-elim}
 use mathlib.Core.Path.{_≡_, refl, _∙_, sym}
 use Prim.Native.Nat.{ℕ, _+_, _*_, _≤_, _<_, min}
 use native.Mathlib.Decide.{decLt}
+use native.Mathlib.Nat.{le-trans}
 use native.Mathlib.Omega.{arith}
 use lib.ListN.{getD}
 use Rattle.book.specs.Tables.{Tables, tablesOf}
-use Rattle.book.specs.TablesLaws.{InRange, Holds, in-range}
+use Rattle.book.specs.TablesLaws.{Holds, in-range}
 use Rattle.book.specs.declared.Sizes.{Sizes}
 use Rattle.machine.specs.Machine.{Reaches}
 use Rattle.layers.specs.Layer.{entryIn}
-use Rattle.walk.specs.Scale.{plain, long, unreached}
+use Rattle.walk.specs.Scale.{Scale, plain, long, unreached}
 use Rattle.walk.specs.Cost.{Exact}
-use Rattle.walk.specs.CostLaws.{exact-map}
 use Rattle.walk.specs.Answer.{Long, Answer, Unreached as Never, Sentence as Word}
 use Rattle.walk.specs.ShortestLaws.{cost-length}
 use Rattle.walk.specs.AnswerLaws.{exact-unreached}
-use Rattle.walk.specs.ClaimsLaws.{goal-matches}
-use Rattle.walk.specs.MatchesLaws.{matches-least}
+use Rattle.walk.specs.Claims.{Claims, Claimed, Least, Arrival, Onward}
+use Rattle.walk.specs.ClaimsLaws.{claimed-terminal, onward-goal, onward-claimed, weights-least, start-exact}
 use Rattle.layers.specs.Crossing.{claimIn}
 use Rattle.layers.specs.CrossingLaws.{terminals-are, states-are}
 use Rattle.crossings.specs.Crossings.{CrossingTable}
 use Rattle.distances.specs.TableLaws.{table-closed, table-witnessed}
-use Rattle.distances.specs.Distances.{GoalIn, Single, GoalTable}
-use Rattle.distances.specs.SingleLaws.{one-of}
-use Rattle.walk.specs.Walk.{Walk, first}
-use Rattle.walk.specs.WalkLaws.{reaches-walk, walk-reaches, walk-terminal}
+use Rattle.distances.specs.Distances.{Single, GoalTable}
+use Rattle.distances.specs.SingleLaws.{single-least}
 use Rattle.finder.specs.ChoosingLaws.{OnePair, ToPair}
 use Rattle.finder.specs.Choosing.{Chose}
 use Rattle.finder.specs.Finder.{Answered}
@@ -50,47 +48,32 @@ module _ {g : ℕ → ℕ} where
       found (no l) = (t, omega arith, omega arith)
 
 -- ---- from the start
-pub pair-start-exact : {B : Tables} {s z m : ℕ} {G : ℕ → ℕ} → InRange B → z < B .terminals
-    → ((a : ℕ) → a < B .terminals → Exact plain (λ w. (n s′ z′ : ℕ) × OnePair s z s′ z′ × Walk B 0 a w z′ n s′) (G a))
-    → Minimum G (B .terminals) m → Exact plain (λ w. Reaches B w z s) m
-pair-start-exact {B} {s} {z} {m} {G} i hz e x = record {
-  least = λ w r. let (n, k) = reaches-walk r in let ha = walk-terminal i hz k in omega (arith, x .below (first w z) ha, e (first w z) ha .least w (n, s, z, (refl, refl), k));
-  attained = let (a, ha, h) = x .attained in ⊎-elim
-      (λ u. inl (h ∙ u))
-      (λ (w, (n, s′, z′, j, k), u). inr (w, walk-reaches i (rw (j .0, j .1) at k), h ∙ u))
-      (e a ha .attained);
+-- the least of the costs to go from the start is that of arriving
+pub start-arrival : {σ : Scale} {B : Tables} {claim : Claims} {s z m : ℕ} {G : ℕ → ℕ} → ((a : ℕ) → a < B .terminals → Least σ (Onward σ B claim (OnePair s z) 0 a) (G a))
+    → Minimum G (B .terminals) m → Least σ (Arrival σ B claim s z) m
+start-arrival {σ} {B} {claim} {s} {z} e x = record {
+  below = λ v (a, n, c). let ha = claimed-terminal c in le-trans (x .below a ha) (e a ha .below v (onward-goal (refl, refl) c));
+  attained = let (a, ha, h) = x .attained in ⊎-elim (λ u. inl (h ∙ u)) (λ o. inr (rw h (arrives (onward-claimed o)))) (e a ha .attained);
 }
+  where
+    arrives : {a v : ℕ} → (n : ℕ) × ((s′ z′ : ℕ) × OnePair s z s′ z′ × Claimed σ B claim 0 a v z′ n s′) → Arrival σ B claim s z v
+    arrives {a} (n, (s′, z′, j, c)) = (a, n, rw (j .0, j .1) at c)
 
 -- row 0 stands at the front
 pub first-row : (to : List ℕ) (a : ℕ) → entryIn to 0 a ≡ getD to a 0
 unfolding entryIn
 first-row to a = let same : 0 * 32 + a ≡ a = omega arith in rw same
 
--- ---- the goal array of one pair
-module _ {d : Sizes} {cells goals dist : List ℕ} {s z : ℕ} (h : Holds d cells) (x : Single plain s z goals) (hs : s < d .s) (hz : z < d .t) (g : GoalTable plain d cells goals dist) where
-  goal-pair : (q a : ℕ) → GoalIn d goals q a → OnePair s z q a
-  goal-pair q a m = ⊎-elim (λ p. p) (λ n. absurd (omega (arith, m .mark, x .elsewhere q a (m .state) (omega (arith, m .terminal, h .small .terminals)) n))) (one-of s z q a)
+-- ---- the weights of one pair
+module _ {d : Sizes} {cells table weights dist : List ℕ} {s z : ℕ} (h : Holds d cells) (x : Single plain s z weights) (g : GoalTable plain d cells table weights dist) where
+  pub to-pair : ToPair plain (tablesOf cells) (claimIn d table) s z (entryIn dist)
+  to-pair q a hq ha = weights-least (in-range h) hq
+      (λ s′ z′ hs hz. single-least x s′ z′ (omega (arith, h .small .states, states-are h)) (omega (arith, h .small .terminals, terminals-are h)))
+      (g .least q a (rw (states-are h) at hq) (rw (terminals-are h) at ha))
 
-  pair-goal : (q a : ℕ) → OnePair s z q a → GoalIn d goals q a
-  pair-goal q a (e, f) = record { state = omega (arith, h .small .states); terminal = rw f hz; mark = rw (e, f) (x .here) }
-
-  -- to a goal is to the pair
-  ends : (q a : ℕ) (w : List ℕ) → ((n s′ z′ : ℕ) × GoalIn d goals s′ z′ × Walk (tablesOf cells) q a w z′ n s′)
-      ↔ ((n s′ z′ : ℕ) × OnePair s z s′ z′ × Walk (tablesOf cells) q a w z′ n s′)
-  ends q a w = (λ (n, s′, z′, j, r). (n, s′, z′, goal-pair s′ z′ j, r), λ (n, s′, z′, j, r). (n, s′, z′, pair-goal s′ z′ j, r))
-
-  pub pair-exact : (q a : ℕ) → q < d .s → a < d .t → Exact plain (λ w. (n s′ z′ : ℕ) × OnePair s z s′ z′ × Walk (tablesOf cells) q a w z′ n s′) (entryIn dist q a)
-  pair-exact q a hq ha = exact-map (ends q a) (g .exact q a hq ha)
-
-  pub pair-reached : {n : ℕ} → Minimum (entryIn dist 0) (d .t) n → Exact plain (λ w. Reaches (tablesOf cells) w z s) n
-  pair-reached m =
-      let t = terminals-are h in
-      pair-start-exact {G = entryIn dist 0} (in-range h) (rw t hz) (λ a ha. pair-exact 0 a (h .small .some-state) (rw t at ha)) (rw t m)
-
-  pub to-pair : {table : List ℕ} → CrossingTable plain d cells table → ToPair plain (tablesOf cells) (claimIn d table) s z (entryIn dist)
-  to-pair t q a hq ha =
-      matches-least (goal-matches (in-range h) (table-closed h t) (table-witnessed h t) {Goal = OnePair s z} (λ s′ z′ (e, f). rw (f, terminals-are h) hz))
-      (pair-exact q a (rw (states-are h) at hq) (rw (terminals-are h) at ha))
+  pub pair-reached : {n : ℕ} → CrossingTable plain d cells table → z < d .t → Minimum (entryIn dist 0) (d .t) n → Exact plain (λ w. Reaches (tablesOf cells) w z s) n
+  pair-reached t hz m = start-exact (in-range h) (table-closed h t) (table-witnessed h t) (rw (terminals-are h) hz)
+      (start-arrival (λ a ha. to-pair 0 a (in-range h .start) ha) (rw (terminals-are h) m))
 
 -- ---- the answers
 pub answer-long : {B : Tables} {s z n : ℕ} → Exact plain (λ w. Reaches B w z s) n → long plain ≤ n → n < unreached plain → Answer plain (λ a. a) B s z Long

@@ -1,26 +1,26 @@
 -- `finder::prepared::answer` meets its contract: the least cost to go from the start says which answer it is. Assumes nothing.
 use native.Mathlib.Omega.{arith}
 use Rattle.distances.specs.TableLaws.{table-usable, table-closed, table-witnessed}
-use Rattle.distances.specs.SingleLaws.{single-goals}
+use Rattle.distances.specs.SingleLaws.{single-bounded}
 use Rattle.finder.specs.PairLaws.{pair-reached, to-pair, answered-unreached, answered-long, answered-sentence}
 use borrow.Author.Needs.{needs}
 use Rattle.finder.proofs.prepared.answer.Statement.{statement}
 use Rattle.finder.proofs.prepared.answer.Tie as tie
 
 to-goal-requires : tie.Need-to-goal-requires
-to-goal-requires c κs = (c .before .before .before .before .before .before .pre .0, (c .before .before .before .before .before .before .pre .1 .0, single-goals (c .before .only .ensures)))
+to-goal-requires c κs = let p = c .before .before .before .before .before .before .pre in (p .0, (p .1 .0, single-bounded (c .before .only .ensures) (p .0 .small .terminals)))
 
 returns : tie.Need-returns
-returns c = let p = c .before .before .before .before .before .before .before .before .before .before .pre in answered-unreached (pair-reached (p .0) (c .before .before .before .before .before .only .ensures) (p .1 .1 .0) (p .1 .1 .1) (c .before .before .before .to-goal .ensures) (c .before .shortest .ensures)) (c .if1 .taken)
+returns c = let p = c .before .before .before .before .before .before .before .before .before .before .pre in answered-unreached (pair-reached (p .0) (c .before .before .before .before .before .only .ensures) (c .before .before .before .to-goal .ensures) (p .1 .0) (p .1 .1 .1) (c .before .shortest .ensures)) (c .if1 .taken)
 
 returns-2 : tie.Need-returns-2
-returns-2 c = let p = c .before .before .before .before .before .before .before .before .before .before .before .pre in answered-long (pair-reached (p .0) (c .before .before .before .before .before .before .only .ensures) (p .1 .1 .0) (p .1 .1 .1) (c .before .before .before .before .to-goal .ensures) (c .before .before .shortest .ensures)) (c .if2 .taken) (c .before .if1 .left)
+returns-2 c = let p = c .before .before .before .before .before .before .before .before .before .before .before .pre in answered-long (pair-reached (p .0) (c .before .before .before .before .before .before .only .ensures) (c .before .before .before .before .to-goal .ensures) (p .1 .0) (p .1 .1 .1) (c .before .before .shortest .ensures)) (c .if2 .taken) (c .before .if1 .left)
 
 choose-requires : tie.Need-choose-requires
 choose-requires c κs =
     let p = c .before .before .before .before .before .before .before .before .before .before .before .before .before .pre in
     let t = p .1 .0 in
-    (table-usable (p .0) t, ((p .1 .1 .1, omega arith, omega (arith, p .1 .1 .2)), ((table-closed (p .0) t, table-witnessed (p .0) t), (to-pair (p .0) (c .before .before .before .before .before .before .before .before .only .ensures) (p .1 .1 .0) (p .1 .1 .1) (c .before .before .before .before .before .before .to-goal .ensures) t, pair-reached (p .0) (c .before .before .before .before .before .before .before .before .only .ensures) (p .1 .1 .0) (p .1 .1 .1) (c .before .before .before .before .before .before .to-goal .ensures) (c .before .before .before .before .shortest .ensures)))))
+    (table-usable (p .0) t, ((p .1 .1 .1, omega arith, omega (arith, p .1 .1 .2)), ((table-closed (p .0) t, table-witnessed (p .0) t), (to-pair (p .0) (c .before .before .before .before .before .before .before .before .only .ensures) (c .before .before .before .before .before .before .to-goal .ensures), pair-reached (p .0) (c .before .before .before .before .before .before .before .before .only .ensures) (c .before .before .before .before .before .before .to-goal .ensures) (p .1 .0) (p .1 .1 .1) (c .before .before .before .before .shortest .ensures)))))
 
 returns-3 : tie.Need-returns-3
 returns-3 c = answered-sentence (c .before .before .choose .ensures)
