@@ -9,11 +9,11 @@ use native.Mathlib.Omega.{arith}
 use lib.ListN.{length, getD, set, length-set}
 use lib.Seq.{set-getD}
 use Rattle.book.specs.Tables.{Tables}
-use Rattle.walk.specs.Scale.{Scale, unreached, shiftCost}
+use Rattle.walk.specs.Scale.{Scale, unreached}
 use Rattle.walk.specs.Cost.{plus}
-use Rattle.walk.specs.CostLaws.{plus-zero, zero-plus, plus-assoc, plus-far-right}
+use Rattle.walk.specs.CostLaws.{zero-plus, plus-assoc, plus-far-right}
 use Rattle.walk.specs.Claims.{Claims, none, OnwardTo, Weighs}
-use Rattle.walk.specs.ClaimsLaws.{claimed-next, claimed-append, claimed-shift, claimed-goto}
+use Rattle.walk.specs.ClaimsLaws.{claimed-next, claimed-append, claimed-shift, claimed-goto, onward}
 use Rattle.walk.specs.Layers.{Sooner, from-shift, from-goto}
 use Rattle.layers.specs.Step.{Upto}
 use Rattle.layers.specs.StepLaws.{step-zero, step-more, step-least, step-none}
@@ -56,21 +56,15 @@ pub merged-done : {σ : Scale} (P : ℕ → ℕ → ℕ → ℕ → Type 0) {i n
 merged-done {σ} P {n} {a} {b} h g p = subst (λ (j : ℕ). Merged σ (Upto P j) n a b) (le-antisymm h g) p
 
 -- ---- distances drawn from older ones
+ahead : (σ : Scale) (v w : ℕ) → w ≤ unreached σ → plus σ v w ≡ plus σ (plus σ v 0) w
+ahead σ v w h = rw (plus-assoc, zero-plus σ w h) refl
+
 module _ {σ : Scale} {B : Tables} {claim : Claims} where
   pub drawn-same : {l : List ℕ} → Bounded σ (B .terminals) l → Drawn σ B claim l l
   drawn-same {l} b = record {
     bounded = b;
     fall = λ q a h. le-refl _;
-    drawn = λ q a h. inr record {
-      count = 0;
-      state = q;
-      next = a;
-      before = 0;
-      after = distanceIn σ l q a;
-      walk = none h;
-      done = refl;
-      sum = sym (zero-plus σ (distanceIn σ l q a) (b .most q a h));
-    };
+    drawn = λ q a h. inr (onward (distanceIn σ l q a) (none h) refl (sym (zero-plus σ (distanceIn σ l q a) (b .most q a h))));
   }
 
   pub drawn-join : {l m k : List ℕ} → Drawn σ B claim l m → Drawn σ B claim m k → Drawn σ B claim l k
@@ -84,16 +78,7 @@ module _ {σ : Scale} {B : Tables} {claim : Claims} where
           → (distanceIn σ m (x .state) (x .next) ≡ unreached σ) ⊎ OnwardTo σ B claim (Weighs (distanceIn σ l)) (x .state) (x .next) (distanceIn σ m (x .state) (x .next))
           → (w ≡ unreached σ) ⊎ OnwardTo σ B claim (Weighs (distanceIn σ l)) q a w
       second q a w x (inl e) = inl (x .sum ∙ plus-far-right σ _ _ (omega (arith, x .done)))
-      second q a w x (inr y) = inr record {
-        count = x .count + y .count;
-        state = y .state;
-        next = y .next;
-        before = plus σ (x .before) (y .before);
-        after = y .after;
-        walk = claimed-append (x .walk) (y .walk);
-        done = y .done;
-        sum = rw (plus-assoc, ← y .sum, ← x .done) (x .sum);
-      }
+      second q a w x (inr y) = inr (onward (y .after) (claimed-append (x .walk) (y .walk)) (y .done) (rw (plus-assoc, ← y .sum, ← x .done) (x .sum)))
 
       first : (q a : ℕ) → (distanceIn σ k q a ≡ unreached σ) ⊎ OnwardTo σ B claim (Weighs (distanceIn σ m)) q a (distanceIn σ k q a)
           → (distanceIn σ k q a ≡ unreached σ) ⊎ OnwardTo σ B claim (Weighs (distanceIn σ l)) q a (distanceIn σ k q a)
@@ -102,26 +87,8 @@ module _ {σ : Scale} {B : Tables} {claim : Claims} where
 
   -- what one transition makes of distances is drawn from them
   from-sooner : {l : List ℕ} {q a v : ℕ} → Bounded σ (B .terminals) l → a < B .terminals → Sooner σ B claim (distanceIn σ l) q a v → OnwardTo σ B claim (Weighs (distanceIn σ l)) q a v
-  from-sooner {l} {q} {a} b ha (from-shift {q₁} c e h) = record {
-    count = 1;
-    state = q₁;
-    next = c;
-    before = plus σ (shiftCost σ a) 0;
-    after = distanceIn σ l q₁ c;
-    walk = claimed-shift e ha (none h);
-    done = refl;
-    sum = rw (plus-zero σ (shiftCost σ a) (omega arith)) refl;
-  }
-  from-sooner {l} {q} {a} b ha (from-goto {q₁} X c g h) = record {
-    count = 1;
-    state = q₁;
-    next = c;
-    before = plus σ (claim q X a c) 0;
-    after = distanceIn σ l q₁ c;
-    walk = claimed-goto X g ha (none h);
-    done = refl;
-    sum = rw (plus-assoc, zero-plus σ (distanceIn σ l q₁ c) (b .most q₁ c h)) refl;
-  }
+  from-sooner {l} b ha (from-shift {q₁} c e h) = onward (distanceIn σ l q₁ c) (claimed-shift e ha (none h)) refl (ahead σ _ _ (b .most q₁ c h))
+  from-sooner {l} b ha (from-goto {q₁} X c g h) = onward (distanceIn σ l q₁ c) (claimed-goto X g ha (none h)) refl (ahead σ _ _ (b .most q₁ c h))
 
   drawn-set : {l : List ℕ} (q a v : ℕ) → B .terminals ≤ 32 → q < 128 → a < B .terminals → v < getD l (q * 32 + a) 0
       → (v ≡ unreached σ) ⊎ Sooner σ B claim (distanceIn σ l) q a v → Bounded σ (B .terminals) l → Drawn σ B claim l (set l (q * 32 + a) v)

@@ -185,18 +185,12 @@ module _ {σ : Scale} {B : Tables} {claim : Claims} {r : ℕ} {J K : ℕ → Lis
 
 -- claimed walks to a pair and on
 module _ {σ : Scale} {B : Tables} {claim : Claims} {q a : ℕ} where
+  pub onward : {K : ℕ → ℕ → ℕ → Type 0} {v u n s z : ℕ} (y : ℕ) → Claimed σ B claim q a v z n s → K s z y → u ≡ plus σ v y → OnwardTo σ B claim K q a u
+  onward {v} {n} {s} {z} y c k e = record { count = n; state = s; next = z; before = v; after = y; walk = c; done = k; sum = e }
+
   -- to a set of goal pairs
   pub onward-goal : {Goal : ℕ → ℕ → Type 0} {v n s z : ℕ} → Goal s z → Claimed σ B claim q a v z n s → Onward σ B claim Goal q a v
-  onward-goal {v} {n} {s} {z} j c = record {
-    count = n;
-    state = s;
-    next = z;
-    before = v;
-    after = 0;
-    walk = c;
-    done = (j, refl);
-    sum = sym (plus-zero σ v (claimed-bounded c));
-  }
+  onward-goal {v} j c = onward 0 c (j, refl) (sym (plus-zero σ v (claimed-bounded c)))
 
   pub onward-claimed : {Goal : ℕ → ℕ → Type 0} {v : ℕ} → Onward σ B claim Goal q a v → (n : ℕ) × ((s z : ℕ) × Goal s z × Claimed σ B claim q a v z n s)
   onward-claimed {v} o =
@@ -208,31 +202,17 @@ module _ {σ : Scale} {B : Tables} {claim : Claims} {q a : ℕ} where
       → ((s z : ℕ) → s < B .states → z < B .terminals → Least σ (K s z) (weight s z)) → Least σ (OnwardTo σ B claim (Weighs weight) q a) d
       → Least σ (OnwardTo σ B claim K q a) d
   weights-least {K} {weight} {d} i hq f l = record {
-    below = λ v o. rw (o .sum) (le-trans
-        (l .below _ (to (o .walk)))
-        (plus-mono σ (le-refl (o .before)) (at (o .walk) .below (o .after) (o .done))));
+    below = λ v o. rw (o .sum) (le-trans (l .below _ (onward (weight (o .state) (o .next)) (o .walk) refl refl)) (plus-mono σ (le-refl (o .before)) (at (o .walk) .below (o .after) (o .done))));
     attained = ⊎-elim inl (λ o. up o (at (o .walk) .attained)) (l .attained);
   }
     where
       at : {v n s z : ℕ} → Claimed σ B claim q a v z n s → Least σ (K s z) (weight s z)
       at {s} {z} c = f s z (claimed-state i hq c) (claimed-next c)
 
-      to : {v n s z : ℕ} → Claimed σ B claim q a v z n s → OnwardTo σ B claim (Weighs weight) q a (plus σ v (weight s z))
-      to {v} {n} {s} {z} c = record { count = n; state = s; next = z; before = v; after = weight s z; walk = c; done = refl; sum = refl }
-
       up : (o : OnwardTo σ B claim (Weighs weight) q a d) → (weight (o .state) (o .next) ≡ unreached σ) ⊎ K (o .state) (o .next) (weight (o .state) (o .next))
           → (d ≡ unreached σ) ⊎ OnwardTo σ B claim K q a d
       up o (inl e) = inl (o .sum ∙ plus-far-right σ _ _ (omega (arith, o .done)))
-      up o (inr k) = inr record {
-        count = o .count;
-        state = o .state;
-        next = o .next;
-        before = o .before;
-        after = o .after;
-        walk = o .walk;
-        done = rw (o .done) k;
-        sum = o .sum;
-      }
+      up o (inr k) = inr (onward (o .after) (o .walk) (rw (o .done) k) (o .sum))
 
 -- so a table of the least costs to go to the goals serves up to every bound below unreached
 pub least-serves : {σ : Scale} {B : Tables} {claim : Claims} {G : ℕ → ℕ → ℕ} {Goal : ℕ → ℕ → Type 0} {r : ℕ} → r < unreached σ
@@ -276,11 +256,10 @@ module _ {σ : Scale} {B : Tables} {claim : Claims} (i : InRange B) (c : Closed 
     pub onward-matches : {K : ℕ → ℕ → ℕ → Type 0} {P : ℕ → ℕ → List ℕ → Type 0} {q a : ℕ} → q < B .states
         → ((s z : ℕ) → s < B .states → z < B .terminals → Matches σ (K s z) (P s z)) → Matches σ (OnwardTo σ B claim K q a) (WalksTo B P q a)
     onward-matches {K} {P} {q} {a} hq f = record {
-      below = λ w x. let (u, r, j) = closed-below i c (x .terminal) (x .walk) in let (y, m, l) = at r .below (x .rest) (x .done) in (
-        plus σ u y,
-        record { count = x .count; state = x .state; next = x .next; before = u; after = y; walk = r; done = m; sum = refl },
-        rw (x .whole) (plus-cost-le σ (x .front) (x .rest) j l),
-      );
+      below = λ w x.
+          let (u, r, j) = closed-below i c (x .terminal) (x .walk) in
+          let (y, m, l) = at r .below (x .rest) (x .done) in
+          (plus σ u y, onward y r m refl, rw (x .whole) (plus-cost-le σ (x .front) (x .rest) j l));
       above = λ v o. rw (o .sum) (attained-plus σ
           (λ u y r p. record { count = o .count; state = o .state; next = o .next; front = u; rest = y; walk = r; terminal = claimed-next (o .walk); done = p; whole = refl })
           (witnessed-above k (o .walk))
