@@ -9,8 +9,7 @@ use Rattle.book.specs.Range.{Small}
 use Rattle.book.specs.Tables.{tablesOf}
 use Rattle.book.specs.TablesLaws.{Holds, goto-some, left-side-below, length-most}
 use Rattle.book.specs.declared.Sizes.{Sizes}
-use Rattle.walk.specs.Scale.{Scale}
-use Rattle.layers.specs.Crossing.{room, crossingRow, Usable}
+use Rattle.layers.specs.Crossing.{room, crossingRow, Fitted}
 
 -- the sizes of the tables are those that the book says
 module _ {d : Sizes} {cells : List ℕ} (h : Holds d cells) where
@@ -61,7 +60,7 @@ module _ (d : Sizes) (q X a : ℕ) (hq : q < d .s) (hX : X < d .n) (ha : a < d .
       (i, j, mul-small ((q * d .n + X) * d .t + a) 132128 (d .t) 32 (omega arith) (omega arith))
 
 -- a row that is read
-pub row-fits : {σ : Scale} {d : Sizes} {cells table : List ℕ} {q X a start : ℕ} → Usable σ d cells table → q < d .s → X < d .n → a < d .t → start ≡ crossingRow d q X a
+pub row-fits : {d : Sizes} {cells table : List ℕ} {q X a start : ℕ} → Fitted d cells table → q < d .s → X < d .n → a < d .t → start ≡ crossingRow d q X a
     → start + d .t ≤ length table
 row-fits {d} {q} {X} {a} u hq hX ha e = omega (arith, crossing-row-below d q X a hq hX ha, u .fits)
 

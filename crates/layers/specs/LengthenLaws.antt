@@ -10,7 +10,6 @@ use Rattle.book.specs.Tables.{Tables, tablesOf}
 use Rattle.book.specs.TablesLaws.{Holds, in-range, goto-some}
 use Rattle.book.specs.declared.Action.the-variants.{Shift}
 use Rattle.book.specs.declared.Sizes.{Sizes}
-use Rattle.walk.specs.WalkLaws.{Opens, shifts}
 use Rattle.walk.specs.Scale.{Scale, unreached, shiftCost}
 use Rattle.walk.specs.Cost.{plus}
 use Rattle.walk.specs.CostLaws.{plus-far-left, plus-far-right}
@@ -18,8 +17,9 @@ use Rattle.walk.specs.Claims.{Claims}
 use Rattle.walk.specs.Layers.{Longer, add-shift, add-goto}
 use Rattle.layers.specs.Layer.{entryIn, valueIn, Wanted, Lengthened, LengthenedTo}
 use Rattle.layers.specs.LayerLaws.{TurnedOn}
-use Rattle.layers.specs.Crossing.{crossingRow, claimIn, Quiet}
+use Rattle.layers.specs.Crossing.{crossingRow, claimIn}
 use Rattle.layers.specs.CrossingLaws.{terminals-are, states-are}
+use Rattle.layers.specs.Opening.{rowIn, Skips}
 use Rattle.layers.specs.Step.{TableStep, Upto, Level, Relaxed, ByShift, ByGoto, Leaves, LeavesState}
 use Rattle.layers.specs.StepLaws.{step-none, step-as, step-on, step-from}
 
@@ -38,12 +38,12 @@ module _ (σ : Scale) (d : Sizes) (want : List ℕ) (B : Tables) (claim : Claims
   lengthen-off {q₁} L off = step-none (λ q z w (b, h, x) l u. leaves-far q₁ b (L q₁ b) q z w (omega (arith, off b)) x u)
 
 module _ {σ : Scale} {d : Sizes} {cells want : List ℕ} (h : Holds d cells) where
-  -- nor where no walk begins
-  pub step-unopened : {claim : Claims} {q₁ b : ℕ} (v : ℕ) {L : ℕ → ℕ → ℕ} → Quiet σ (tablesOf cells) claim → ¬ Opens (tablesOf cells) q₁ b → b < d .t
+  -- nor from a row that can be passed over
+  pub step-skipped : {claim : Claims} {rows : List ℕ} (q₁ b v : ℕ) {L : ℕ → ℕ → ℕ} → Skips σ (tablesOf cells) claim rows → rowIn rows q₁ b ≡ 0 → b < d .t
       → TableStep σ (Leaves σ d want (tablesOf cells) claim q₁ b v) L L
-  step-unopened {claim} {q₁} {b} v k o hb = step-none (λ q z w x l u. ⊎-elim
-      (λ (e, hz, ew, on). o (shifts e))
-      (λ (X, hX, (g, hz, ew, on)). omega (arith, ew, plus-far-right σ v (claim q₁ X b z) (omega (arith, k .unopened {z = z} o (rw (terminals-are h) hb) (rw (terminals-are h) hz) g))))
+  step-skipped {claim} q₁ b v k o hb = step-none (λ q z w x l u. ⊎-elim
+      (λ (e, hz, ew, on). k .shiftless o e)
+      (λ (X, hX, (g, hz, ew, on)). omega (arith, ew, plus-far-right σ v (claim q₁ X b z) (omega (arith, k .unclaimed {z = z} o (rw (terminals-are h) hb) (rw (terminals-are h) hz) g))))
       x)
 
   -- a shift lowers the row of its target ..

@@ -1,6 +1,8 @@
 pub mod ActionLaws
 pub mod Layer
 pub mod LayerLaws
+pub mod Opening
+pub mod OpeningLaws
 pub mod Crossing
 pub mod CrossingLaws
 pub mod Step

@@ -6,7 +6,7 @@ use Rattle.layers.proofs.transition.lengthen.Statement.{statement}
 use Rattle.layers.proofs.transition.lengthen.Tie as tie
 
 returns : tie.Need-returns
-returns c = (c .lengthen-within .ensures .0, lengthened-all (c .before .before .before .before .before .before .pre .0 .holds) _ _ (λ q z h. longer-whole (c .lengthen-within .ensures .1 q z h)))
+returns c = (c .lengthen-within .ensures .0, lengthened-all (c .before .before .before .before .before .before .pre .0 .fitted .holds) _ _ (λ q z h. longer-whole (c .lengthen-within .ensures .1 q z h)))
 
 pub lengthen-spec : {M : Type 1} → statement M
 lengthen-spec = tie.close (tie.spec (λ c κs. search needs) returns)

@@ -1,11 +1,11 @@
--- `layers::transition::opens` meets its contract. Assumes nothing.
+-- `layers::opening::opens` meets its contract. Assumes nothing.
 use mathlib.Core.Path.{_∙_, sym}
 use mathlib.Core.Bool.{false≢true}
 use borrow.Author.Tests.{eqb-false}
 use Rattle.layers.specs.ActionLaws.{reduce-below, reduce-unopened, error-unopened, accept-unopened}
 use borrow.Author.Needs.{needs}
-use Rattle.layers.proofs.transition.opens.Statement.{statement}
-use Rattle.layers.proofs.transition.opens.Tie as tie
+use Rattle.layers.proofs.opening.opens.Statement.{statement}
+use Rattle.layers.proofs.opening.opens.Tie as tie
 
 production-length-requires : tie.Need-production-length-requires
 production-length-requires c κs = (c .before .before .before .before .before .pre .0, reduce-below _ _ (c .before .before .before .before .before .pre .0) (c .before .before .before .action-at .ensures) (c .before .p .given .1))
