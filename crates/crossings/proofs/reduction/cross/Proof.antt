@@ -4,7 +4,7 @@ use mathlib.Core.Path.{_∙_, sym}
 use Prim.Native.Nat.{_-_, _<_}
 use Rattle.layers.specs.CrossingLaws.{left-below, crossing-row-small, row-fits}
 use Rattle.crossings.specs.PassLaws.{table-pass-idle}
-use Rattle.crossings.specs.ReductionLaws.{sound-usable, reduced, settled-length, settled-goto}
+use Rattle.crossings.specs.ReductionLaws.{sound-fitted, reduced, settled-length, settled-goto}
 use borrow.Author.Needs.{needs}
 use Rattle.crossings.proofs.reduction.cross.Statement.{statement}
 use Rattle.crossings.proofs.reduction.cross.Tie as tie
@@ -28,7 +28,7 @@ add-k : tie.Need-add-k
 add-k c = let p = c .before .before .before .before .before .before .before .before .pre in omega (arith, c .crossing-row .ensures, crossing-row-small _ _ _ _ (p .1 .0 .0) (left (c .before .before .before)) (p .1 .0 .1) (p .0 .holds .small), p .0 .holds .small .terminals)
 
 lower-requires : tie.Need-lower-requires
-lower-requires c κs = let p = c .before .before .before .before .before .before .before .before .before .pre in omega (arith, row-fits (sound-usable (p .0)) (p .1 .0 .0) (left (c .before .before .before .before)) (p .1 .0 .1) (c .before .crossing-row .ensures), p .1 .0 .2)
+lower-requires c κs = let p = c .before .before .before .before .before .before .before .before .before .pre in omega (arith, row-fits (sound-fitted (p .0)) (p .1 .0 .0) (left (c .before .before .before .before)) (p .1 .0 .1) (c .before .crossing-row .ensures), p .1 .0 .2)
 
 returns-3 : tie.Need-returns-3
 returns-3 c =
