@@ -22,7 +22,8 @@ use Rattle.walk.specs.MatchesLaws.{matches-exact, exact-matches}
 use Rattle.walk.specs.ClaimsLaws.{weights-least, onward-matches}
 use Rattle.walk.specs.Layers.{Sooner, from-shift, from-goto, ToGoal}
 use Rattle.walk.specs.LayersLaws.{goal-least}
-use Rattle.layers.specs.Crossing.{crossingRow, claimIn, Quiet}
+use Rattle.layers.specs.Crossing.{crossingRow, claimIn}
+use Rattle.layers.specs.Opening.{rowIn, Skips}
 use Rattle.layers.specs.CrossingLaws.{terminals-are, states-are}
 use Rattle.layers.specs.Layer.{entryIn}
 use Rattle.layers.specs.Step.{TableStep, Upto}
@@ -104,15 +105,15 @@ module _ {σ : Scale} {d : Sizes} {cells : List ℕ} (h : Holds d cells) (dist :
     pub nearest : distanceIn σ dist q a ≤ r → LeastApproach σ (tablesOf cells) claim q a (distanceIn σ dist)
     nearest l = record { bound = λ x. le-trans l (sooner-below x) }
 
-  -- where no walk begins nothing is near
-  pub nearest-unopened : {claim : Claims} {q a : ℕ} → Quiet σ (tablesOf cells) claim → ¬ Opens (tablesOf cells) q a → a < tablesOf cells .terminals
+  -- from a row that can be passed over nothing is near
+  pub nearest-skipped : {claim : Claims} {rows : List ℕ} (q a : ℕ) → Skips σ (tablesOf cells) claim rows → rowIn rows q a ≡ 0 → a < tablesOf cells .terminals
       → Bounded σ (tablesOf cells .terminals) dist → LeastApproach σ (tablesOf cells) claim q a (distanceIn σ dist)
-  nearest-unopened {claim} {q} {a} k o ha b = record { bound = λ x. low x }
+  nearest-skipped {claim} q a k o ha b = record { bound = λ x. low x }
     where
       low : {v : ℕ} → Sooner σ (tablesOf cells) claim (distanceIn σ dist) q a v → distanceIn σ dist q a ≤ v
-      low (from-shift c e hc) = absurd (o (shifts e))
+      low (from-shift c e hc) = absurd (k .shiftless o e)
       low (from-goto {q₁} X c g hc) =
-          omega (arith, b .most q a ha, plus-far-left σ (claim q X a c) (distanceIn σ dist q₁ c) (omega (arith, k .unopened {z = c} o ha hc g)))
+          omega (arith, b .most q a ha, plus-far-left σ (claim q X a c) (distanceIn σ dist q₁ c) (omega (arith, k .unclaimed {z = c} o ha hc g)))
 
 -- ---- states without a value
 module _ {σ : Scale} {t : ℕ} {flags dist : List ℕ} (m : Marked σ t flags dist) where

@@ -14,10 +14,10 @@ use Rattle.distances.proofs.to_goals.approach_state.Statement.{statemen
 use Rattle.distances.proofs.to_goals.approach_state.Tie as tie
 
 abbrev Inv-loop : tie.InvT-loop
-Inv-loop cells d table dist₀ flags₀ q t n₀ a₀ dist flags n a = (a ≤ t) × Pass (Drawn plain (tablesOf cells) (claimIn d table)) (Each (λ j l. LeastApproach plain (tablesOf cells) (claimIn d table) q j (distanceIn plain l)) a) n dist₀ dist × Marked plain (d .t) flags dist
+Inv-loop cells d table rows dist₀ flags₀ q t n₀ a₀ dist flags n a = (a ≤ t) × Pass (Drawn plain (tablesOf cells) (claimIn d table)) (Each (λ j l. LeastApproach plain (tablesOf cells) (claimIn d table) q j (distanceIn plain l)) a) n dist₀ dist × Marked plain (d .t) flags dist
 
 abbrev μ-loop : tie.MeasureT-loop
-μ-loop cells d table dist₀ flags₀ q t n₀ a₀ dist flags n a = t - a
+μ-loop cells d table rows dist₀ flags₀ q t n₀ a₀ dist flags n a = t - a
 
 loop-holds : tie.Need-loop-holds Inv-loop μ-loop
 loop-holds c = (omega arith, distance-pass-idle (c .before .before .pre .1 .1 .0) (λ j h. absurd (omega arith)), c .before .before .pre .1 .1 .1)

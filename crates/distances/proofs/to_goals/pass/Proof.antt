@@ -14,10 +14,10 @@ use Rattle.distances.proofs.to_goals.pass.Statement.{statement}
 use Rattle.distances.proofs.to_goals.pass.Tie as tie
 
 abbrev Inv-loop : tie.InvT-loop
-Inv-loop cells d table dist₀ flags₀ s n₀ i₀ dist flags n i = (i ≤ s) × Pass (Drawn plain (tablesOf cells) (claimIn d table)) (Each (λ j. Each (λ a l. LeastApproach plain (tablesOf cells) (claimIn d table) (d .s - 1 - j) a (distanceIn plain l)) (d .t)) i) n dist₀ dist × Marked plain (d .t) flags dist
+Inv-loop cells d table rows dist₀ flags₀ s n₀ i₀ dist flags n i = (i ≤ s) × Pass (Drawn plain (tablesOf cells) (claimIn d table)) (Each (λ j. Each (λ a l. LeastApproach plain (tablesOf cells) (claimIn d table) (d .s - 1 - j) a (distanceIn plain l)) (d .t)) i) n dist₀ dist × Marked plain (d .t) flags dist
 
 abbrev μ-loop : tie.MeasureT-loop
-μ-loop cells d table dist₀ flags₀ s n₀ i₀ dist flags n i = s - i
+μ-loop cells d table rows dist₀ flags₀ s n₀ i₀ dist flags n i = s - i
 
 loop-holds : tie.Need-loop-holds Inv-loop μ-loop
 loop-holds c = (omega arith, distance-pass-idle (c .before .before .pre .1 .0) (λ j h. absurd (omega arith)), c .before .before .pre .1 .1)

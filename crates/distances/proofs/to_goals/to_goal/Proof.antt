@@ -17,19 +17,19 @@ use Rattle.distances.proofs.to_goals.to_goal.Statement.{statement}
 use Rattle.distances.proofs.to_goals.to_goal.Tie as tie
 
 abbrev Inv-loop : tie.InvT-loop
-Inv-loop cells d table dist₀ t flags₀ n₀ dist flags n = Drawn plain (tablesOf cells) (claimIn d table) dist₀ dist × Marked plain (d .t) flags dist × (n ≡ 0 → Each (λ q. Each (λ a l. LeastApproach plain (tablesOf cells) (claimIn d table) q a (distanceIn plain l)) (d .t)) (d .s) dist)
+Inv-loop cells d table rows dist₀ t flags₀ n₀ dist flags n = Drawn plain (tablesOf cells) (claimIn d table) dist₀ dist × Marked plain (d .t) flags dist × (n ≡ 0 → Each (λ q. Each (λ a l. LeastApproach plain (tablesOf cells) (claimIn d table) q a (distanceIn plain l)) (d .t)) (d .s) dist)
 
 abbrev μ-loop : tie.MeasureT-loop
-μ-loop cells d table dist₀ t flags₀ n₀ dist flags n = total dist + min n 1
+μ-loop cells d table rows dist₀ t flags₀ n₀ dist flags n = total dist + min n 1
 
 mark-requires : tie.Need-mark-requires Inv-loop μ-loop
-mark-requires c κs = let p = c .before .before .before .before .pre in (p .0 .small .terminals, (p .1 .1, length-replicate {A = ℕ} 128 0))
+mark-requires c κs = let p = c .before .before .before .before .pre in (p .0 .small .terminals, (p .1 .1 .0, length-replicate {A = ℕ} 128 0))
 
 loop-holds : tie.Need-loop-holds Inv-loop μ-loop
-loop-holds c = let p = c .before .before .before .before .before .pre in (drawn-same (rw (terminals-are (p .0)) (p .1 .1)), c .mark .ensures, λ e. absurd (omega (arith, e)))
+loop-holds c = let p = c .before .before .before .before .before .pre in (drawn-same (rw (terminals-are (p .0)) (p .1 .1 .0)), c .mark .ensures, λ e. absurd (omega (arith, e)))
 
 pass-requires : tie.Need-pass-requires Inv-loop μ-loop
-pass-requires c κs = (table-usable (c .before .before .before .before .before .before .before .before .before .pre .0) (c .before .before .before .before .before .before .before .before .before .pre .1 .0), (c .before .before .before .loop .inv .0 .bounded, c .before .before .before .loop .inv .1))
+pass-requires c κs = (table-usable (c .before .before .before .before .before .before .before .before .before .pre .0) (c .before .before .before .before .before .before .before .before .before .pre .1 .0) (c .before .before .before .before .before .before .before .before .before .pre .1 .1 .1), (c .before .before .before .loop .inv .0 .bounded, c .before .before .before .loop .inv .1))
 
 loop-less : tie.Need-loop-less Inv-loop μ-loop
 loop-less c = omega (arith, c .pass .ensures .0 .fallen .sum, c .before .before .before .loop-test .taken)
