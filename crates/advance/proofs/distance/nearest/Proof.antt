@@ -10,13 +10,13 @@ use Rattle.advance.proofs.distance.nearest.Statement.{statement}
 use Rattle.advance.proofs.distance.nearest.Tie as tie
 
 abbrev Inv-loop : tie.InvT-loop
-Inv-loop cells d table x to₀ m₀ n₀ to m n = (m ≤ 128) × Rounds (tablesOf cells) (claimIn d table) x m n to
+Inv-loop cells d table rows x to₀ m₀ n₀ to m n = (m ≤ 128) × Rounds (tablesOf cells) (claimIn d table) x m n to
 
 abbrev μ-loop : tie.MeasureT-loop
-μ-loop cells d table x to₀ m₀ n₀ to m n = 128 - m
+μ-loop cells d table rows x to₀ m₀ n₀ to m n = 128 - m
 
 loop-holds : tie.Need-loop-holds Inv-loop μ-loop
-loop-holds c = (omega arith, rounds-none (c .before .before .before .before .pre .0 .holds) (c .start .ensures))
+loop-holds c = (omega arith, rounds-none (c .before .before .before .before .pre .0 .fitted .holds) (c .start .ensures))
 
 round-requires : tie.Need-round-requires Inv-loop μ-loop
 round-requires c κs = let l = c .before .before .loop .inv .1 in (c .before .before .before .before .before .before .before .pre .0, ((c .before .before .before .before .before .before .before .pre .1, l .low (c .before .loop-test .taken)), l .round))
@@ -28,7 +28,7 @@ loop-less : tie.Need-loop-less Inv-loop μ-loop
 loop-less c = omega (arith, c .before .before .before .loop .inv .1 .low (c .before .before .loop-test .taken))
 
 loop-again : tie.Need-loop-again Inv-loop μ-loop
-loop-again c = let m = c .before .before .before .loop .inv .1 .low (c .before .before .loop-test .taken) in (omega (arith, m), rounds-more (c .before .before .before .before .before .before .before .before .pre .0 .holds) m (c .round .ensures))
+loop-again c = let m = c .before .before .before .loop .inv .1 .low (c .before .before .loop-test .taken) in (omega (arith, m), rounds-more (c .before .before .before .before .before .before .before .before .pre .0 .fitted .holds) m (c .round .ensures))
 
 returns : tie.Need-returns Inv-loop μ-loop
 returns c = c .before .loop .inv .1 .last (c .loop-test .left)
