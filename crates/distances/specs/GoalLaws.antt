@@ -13,7 +13,6 @@ use Rattle.book.specs.TablesLaws.{Holds, in-range, goto-some}
 use Rattle.book.specs.declared.Action.the-variants.{Shift}
 use Rattle.book.specs.declared.Sizes.{Sizes}
 use Rattle.walk.specs.Walk.{WalksTo}
-use Rattle.walk.specs.WalkLaws.{Opens, shifts}
 use Rattle.walk.specs.Scale.{Scale, unreached, shiftCost}
 use Rattle.walk.specs.Cost.{Exact}
 use Rattle.walk.specs.CostLaws.{plus-far-left, plus-far-right}

@@ -14,6 +14,7 @@ use crate::prepared::answer;
 use book::Checked;
 use book::Sizes;
 use crossings::crossings;
+use layers::open_rows;
 
 // The answer for an accepted book, in room that is enough.
 fn solve(cells: &[u16], d: Sizes, s: usize, z: usize, work: &mut [u16], buffer: &mut [u8]) -> Found
@@ -22,7 +23,9 @@ fn solve(cells: &[u16], d: Sizes, s: usize, z: usize, work: &mut [u16], buffer: 
     ensures { λ r. ⌜ Answered (tablesOf (now (cells .entry))) s z (now (buffer .entry)) r (now (buffer .exit)) ⌝ }
     ensures { λ _. ⌜ now (work .exit) ≡ cleared d (now (work .entry)) ⌝ }
 {
-    crossings(cells, d, work);
+    let mut rows = [0u8; 4096];
+    open_rows(cells, d, &mut rows);
+    crossings(cells, d, work, &rows);
     let found = answer(cells, d, work, s, z, buffer);
     let n = work_cells(d);
     clear(work, n);

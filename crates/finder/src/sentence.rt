@@ -27,13 +27,14 @@ pub fn choose(
     cells: &[u16],
     d: Sizes,
     table: &[u16],
+    rows: &[u8; 4096],
     togo: &[u16; 4096],
     s: usize,
     z: usize,
     n: usize,
     buffer: &mut [u8],
 )
-    requires { ⌜ Usable plain d (now cells) (now table) ⌝ }
+    requires { ⌜ Usable plain d (now cells) (now table) (now rows) ⌝ }
     requires { ⌜ (z < d .t) × (n ≤ plain .limit) × (n ≤ length (now buffer)) ⌝ }
     requires { ⌜ Closed plain (tablesOf (now cells)) (claimIn d (now table)) × Witnessed plain (tablesOf (now cells)) (claimIn d (now table)) ⌝ }
     requires { ⌜ ToPair plain (tablesOf (now cells)) (claimIn d (now table)) s z (entryIn (now togo)) × Exact plain (λ w. Reaches (tablesOf (now cells)) w z s) n ⌝ }
@@ -43,9 +44,9 @@ pub fn choose(
     let mut depth: usize = 1;
     let mut i: usize = 0;
     while i < n {
-        let a = lowest(cells, d, table, togo, &stack[..depth], (n - i) as u16);
+        let a = lowest(cells, d, table, rows, togo, &stack[..depth], (n - i) as u16);
         buffer[i] = a as u8;
-        depth = take_in(cells, d, table, &mut stack, depth, a);
+        depth = take_in(cells, d, table, rows, &mut stack, depth, a);
         i += 1;
     }
 }

@@ -14,6 +14,7 @@ use crossings::crossings;
 use distances::from_start;
 use finder::mask_of;
 use finder::pair_fails;
+use layers::open_rows;
 use walk::UNREACHED;
 
 // Whether the state has a failing pair.
@@ -68,8 +69,10 @@ pub fn cover(cells: &[u16], d: Sizes, flags: &[u8; 128], work: &mut [u16]) -> Ju
     ensures { λ r. ⌜ Covered (tablesOf (now (cells .entry))) (now (flags .entry)) r ⌝ }
     ensures { λ _. ⌜ Beyond (room d) (now (work .entry)) (now (work .exit)) ⌝ }
 {
-    crossings(cells, d, work);
+    let mut rows = [0u8; 4096];
+    open_rows(cells, d, &mut rows);
+    crossings(cells, d, work, &rows);
     let mut dist = [UNREACHED; 4096];
-    from_start(cells, d, work, &mut dist);
+    from_start(cells, d, work, &rows, &mut dist);
     lowest_lacking(cells, d, &dist, flags)
 }

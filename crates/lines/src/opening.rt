@@ -5,6 +5,7 @@ ghost use Rattle.lines.specs.Prepare.{admitsListing, Prepared};
 use book::Checked;
 use crossings::crossings;
 use finder::work_cells;
+use layers::open_rows;
 use number::Refusal;
 
 fn admit(cells: &[u16], work: usize) -> Checked
@@ -31,6 +32,8 @@ pub fn prepare(cells: &[u16], work: &mut [u16]) -> Checked
     let Checked::Valid(d) = found else {
         return found;
     };
-    crossings(cells, d, work);
+    let mut rows = [0u8; 4096];
+    open_rows(cells, d, &mut rows);
+    crossings(cells, d, work, &rows);
     found
 }

@@ -1,12 +1,16 @@
 -- `finder::find_pair::solve` meets its contract. Assumes nothing.
+use native.Mathlib.Omega.{arith}
 use Rattle.finder.specs.MapLaws.{work-cleared}
 use borrow.Author.Needs.{needs}
 use Rattle.finder.proofs.find_pair.solve.Statement.{statement}
 use Rattle.finder.proofs.find_pair.solve.Tie as tie
 
+crossings-requires : tie.Need-crossings-requires
+crossings-requires c κs = (c .before .before .before .before .before .before .before .pre .0, (omega (arith, c .before .before .before .before .before .before .before .pre .1 .0), c .before .before .open-rows .ensures))
+
 returns : tie.Need-returns
-returns c = (c .before .before .before .before .before .before .before .answer .ensures, work-cleared (c .before .before .before .before .before .before .before .before .before .before .before .before .before .before .before .before .before .args .d) (c .before .before .before .before .before .before .before .before .before .before .before .before .crossings .ensures .1) (c .before .before .before .before .work-cells .ensures) (c .before .before .clear .ensures))
+returns c = (c .before .before .before .before .before .before .before .answer .ensures, work-cleared (c .before .before .before .before .before .before .before .before .before .before .before .before .before .before .before .before .before .before .before .before .args .d) (c .before .before .before .before .before .before .before .before .before .before .before .before .crossings .ensures .1) (c .before .before .before .before .work-cells .ensures) (c .before .before .clear .ensures))
 
 pub solve-spec : {M : Type 1} → statement M
 solve-spec =
-    tie.close (tie.spec (λ c κs. search needs) (λ c κs. search needs) (λ c κs. search needs) (λ c κs. search needs) (λ c. search needs) (λ c. search needs) returns)
+    tie.close (tie.spec (λ c κs. search needs) crossings-requires (λ c κs. search needs) (λ c κs. search needs) (λ c κs. search needs) (λ c. search needs) (λ c. search needs) returns)

@@ -11,10 +11,10 @@ use Rattle.finder.proofs.lowest_symbol.lowest.Statement.{statement}
 use Rattle.finder.proofs.lowest_symbol.lowest.Tie as tie
 
 abbrev Inv-loop : tie.InvT-loop
-Inv-loop cells d table togo stack r t x₀ x = PassedOver (Completing plain (tablesOf cells) (claimIn d table) (entryIn togo) stack r) 1 x
+Inv-loop cells d table rows togo stack r t x₀ x = PassedOver (Completing plain (tablesOf cells) (claimIn d table) (entryIn togo) stack r) 1 x
 
 abbrev μ-loop : tie.MeasureT-loop
-μ-loop cells d table togo stack r t x₀ x = t - x
+μ-loop cells d table rows togo stack r t x₀ x = t - x
 
 loop-holds : tie.Need-loop-holds Inv-loop μ-loop
 loop-holds c = passed-over-none

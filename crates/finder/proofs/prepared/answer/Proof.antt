@@ -8,23 +8,23 @@ use Rattle.finder.proofs.prepared.answer.Statement.{statement}
 use Rattle.finder.proofs.prepared.answer.Tie as tie
 
 to-goal-requires : tie.Need-to-goal-requires
-to-goal-requires c κs = let p = c .before .before .before .before .before .before .pre in (p .0, (p .1 .0, single-bounded (c .before .only .ensures) (p .0 .small .terminals)))
+to-goal-requires c κs = let p = c .before .before .before .before .before .before .before .before .before .pre in (p .0, (p .1 .0, (single-bounded (c .before .before .only .ensures) (p .0 .small .terminals), c .before .before .before .before .open-rows .ensures)))
 
 returns : tie.Need-returns
-returns c = let p = c .before .before .before .before .before .before .before .before .before .before .pre in answered-unreached (pair-reached (p .0) (c .before .before .before .before .before .only .ensures) (c .before .before .before .to-goal .ensures) (p .1 .0) (p .1 .1 .1) (c .before .shortest .ensures)) (c .if1 .taken)
+returns c = let p = c .before .before .before .before .before .before .before .before .before .before .before .before .before .pre in answered-unreached (pair-reached (p .0) (c .before .before .before .before .before .before .only .ensures) (c .before .before .before .to-goal .ensures) (p .1 .0) (p .1 .1 .1) (c .before .shortest .ensures)) (c .if1 .taken)
 
 returns-2 : tie.Need-returns-2
-returns-2 c = let p = c .before .before .before .before .before .before .before .before .before .before .before .pre in answered-long (pair-reached (p .0) (c .before .before .before .before .before .before .only .ensures) (c .before .before .before .before .to-goal .ensures) (p .1 .0) (p .1 .1 .1) (c .before .before .shortest .ensures)) (c .if2 .taken) (c .before .if1 .left)
+returns-2 c = let p = c .before .before .before .before .before .before .before .before .before .before .before .before .before .before .pre in answered-long (pair-reached (p .0) (c .before .before .before .before .before .before .before .only .ensures) (c .before .before .before .before .to-goal .ensures) (p .1 .0) (p .1 .1 .1) (c .before .before .shortest .ensures)) (c .if2 .taken) (c .before .if1 .left)
 
 choose-requires : tie.Need-choose-requires
 choose-requires c κs =
-    let p = c .before .before .before .before .before .before .before .before .before .before .before .before .before .pre in
+    let p = c .before .before .before .before .before .before .before .before .before .before .before .before .before .before .before .before .before .pre in
     let t = p .1 .0 in
-    (table-usable (p .0) t, ((p .1 .1 .1, omega arith, omega (arith, p .1 .1 .2)), ((table-closed (p .0) t, table-witnessed (p .0) t), (to-pair (p .0) (c .before .before .before .before .before .before .before .before .only .ensures) (c .before .before .before .before .before .before .to-goal .ensures), pair-reached (p .0) (c .before .before .before .before .before .before .before .before .only .ensures) (c .before .before .before .before .before .before .to-goal .ensures) (p .1 .0) (p .1 .1 .1) (c .before .before .before .before .shortest .ensures)))))
+    (table-usable (p .0) t (c .before .before .before .before .before .before .before .before .before .before .before .before .open-rows .ensures), ((p .1 .1 .1, omega arith, omega (arith, p .1 .1 .2)), ((table-closed (p .0) t, table-witnessed (p .0) t), (to-pair (p .0) (c .before .before .before .before .before .before .before .before .before .before .only .ensures) (c .before .before .before .before .before .before .before .to-goal .ensures), pair-reached (p .0) (c .before .before .before .before .before .before .before .before .before .before .only .ensures) (c .before .before .before .before .before .before .before .to-goal .ensures) (p .1 .0) (p .1 .1 .1) (c .before .before .before .before .before .shortest .ensures)))))
 
 returns-3 : tie.Need-returns-3
 returns-3 c = answered-sentence (c .before .before .choose .ensures)
 
 pub answer-spec : {M : Type 1} → statement M
 answer-spec =
-    tie.close (tie.spec (λ c κs. search needs) to-goal-requires (λ c κs. search needs) returns returns-2 (λ c. search needs) choose-requires (λ c. search needs) (λ c. search needs) returns-3)
+    tie.close (tie.spec (λ c κs. search needs) (λ c κs. search needs) to-goal-requires (λ c κs. search needs) returns returns-2 (λ c. search needs) choose-requires (λ c. search needs) (λ c. search needs) returns-3)

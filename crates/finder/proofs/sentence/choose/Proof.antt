@@ -24,13 +24,13 @@ one-less : (n i : ℕ) → i < n → n - (i + 1) ≡ n - i - 1
 one-less n i h = omega arith
 
 abbrev Inv-loop : tie.InvT-loop
-Inv-loop cells d table togo s z n buffer₀ stack₀ depth₀ i₀ buffer stack depth i = (i ≤ n) × (length buffer ≡ length buffer₀) × (length stack ≡ 129001) × Choosing plain (λ a. a) (tablesOf cells) (λ w. Reaches (tablesOf cells) w z s) (0 ∷ []) n buffer₀ buffer stack depth i (n - i)
+Inv-loop cells d table rows togo s z n buffer₀ stack₀ depth₀ i₀ buffer stack depth i = (i ≤ n) × (length buffer ≡ length buffer₀) × (length stack ≡ 129001) × Choosing plain (λ a. a) (tablesOf cells) (λ w. Reaches (tablesOf cells) w z s) (0 ∷ []) n buffer₀ buffer stack depth i (n - i)
 
 abbrev μ-loop : tie.MeasureT-loop
-μ-loop cells d table togo s z n buffer₀ stack₀ depth₀ i₀ buffer stack depth i = n - i
+μ-loop cells d table rows togo s z n buffer₀ stack₀ depth₀ i₀ buffer stack depth i = n - i
 
 loop-holds : tie.Need-loop-holds Inv-loop μ-loop
-loop-holds c = let p = c .before .before .before .before .pre in (omega arith, refl, c .new-stack .ensures .0, rw (zero-left _) (choosing-none (in-range (p .0 .holds) .start) (p .1 .1 .1 .1) (p .1 .0 .1) (omega (arith, c .new-stack .ensures .0)) (c .new-stack .ensures .1)))
+loop-holds c = let p = c .before .before .before .before .pre in (omega arith, refl, c .new-stack .ensures .0, rw (zero-left _) (choosing-none (in-range (p .0 .fitted .holds) .start) (p .1 .1 .1 .1) (p .1 .0 .1) (omega (arith, c .new-stack .ensures .0)) (c .new-stack .ensures .1)))
 
 array-share-prefix-stack : tie.Need-array-share-prefix-stack Inv-loop μ-loop
 array-share-prefix-stack c = omega (arith, c .before .loop .inv .3 .low, c .before .before .before .before .before .before .pre .1 .0, c .before .loop .inv .2)
@@ -42,16 +42,16 @@ cast-lowest : tie.Need-cast-lowest Inv-loop μ-loop
 cast-lowest c = omega (arith, c .before .before .before .before .before .before .before .pre .1 .0)
 
 lowest-requires : tie.Need-lowest-requires Inv-loop μ-loop
-lowest-requires c κs = let p = c .before .before .before .before .before .before .before .pre in let l = c .before .before .loop .inv in (p .0, (omega (arith, p .1 .0), part-states (rw (states-are (p .0 .holds)) at (l .3 .stacked)) (omega (arith, l .3 .low, p .1 .0, l .2))))
+lowest-requires c κs = let p = c .before .before .before .before .before .before .before .pre in let l = c .before .before .loop .inv in (p .0, (omega (arith, p .1 .0), part-states (rw (states-are (p .0 .fitted .holds)) at (l .3 .stacked)) (omega (arith, l .3 .low, p .1 .0, l .2))))
 
 pick : (c : tie.After-lowest Inv-loop μ-loop) → Picked plain (λ a. a) (tablesOf (c .before .before .before .before .before .before .before .before .args .cells .now)) (λ w. Reaches (tablesOf (c .before .before .before .before .before .before .before .before .args .cells .now)) w (c .before .before .before .before .before .before .before .before .args .z) (c .before .before .before .before .before .before .before .before .args .s)) (c .before .before .before .loop .inv .3 .word) (reverse (take (c .before .before .before .loop .depth) (c .before .before .before .loop .stack))) (c .before .before .before .before .before .before .before .before .args .n - c .before .before .before .loop .i) (c .lowest .result)
 pick c =
     let p = c .before .before .before .before .before .before .before .before .pre in
     let l = c .before .before .before .loop .inv in
-    choosing-pick (in-range (p .0 .holds)) (p .1 .1 .0 .0) (p .1 .1 .0 .1) (terminal (p .0 .holds) (p .1 .0 .0)) (p .1 .1 .1 .0) (l .3) (omega (arith, c .before .before .loop-test .taken)) (omega (arith, p .1 .0 .1)) (omega (arith, l .3 .low, p .1 .0, l .2)) (terminals-are (p .0 .holds)) (c .lowest .ensures)
+    choosing-pick (in-range (p .0 .fitted .holds)) (p .1 .1 .0 .0) (p .1 .1 .0 .1) (terminal (p .0 .fitted .holds) (p .1 .0 .0)) (p .1 .1 .1 .0) (l .3) (omega (arith, c .before .before .loop-test .taken)) (omega (arith, p .1 .0 .1)) (omega (arith, l .3 .low, p .1 .0, l .2)) (terminals-are (p .0 .fitted .holds)) (c .lowest .ensures)
 
 cast-buffer : tie.Need-cast-buffer Inv-loop μ-loop
-cast-buffer c = omega (arith, pick c .terminal, terminals-are (c .before .before .before .before .before .before .before .before .pre .0 .holds), c .before .before .before .before .before .before .before .before .pre .0 .holds .small .terminals)
+cast-buffer c = omega (arith, pick c .terminal, terminals-are (c .before .before .before .before .before .before .before .before .pre .0 .fitted .holds), c .before .before .before .before .before .before .before .before .pre .0 .fitted .holds .small .terminals)
 
 slice-write-buffer : tie.Need-slice-write-buffer Inv-loop μ-loop
 slice-write-buffer c = omega (arith, c .before .before .before .before .before .before .before .before .pre .1 .0, c .before .before .before .loop .inv .1)
@@ -64,7 +64,7 @@ take-in-requires c κs =
     let p = c .before .before .before .before .before .before .before .before .before .pre in
     let l = c .before .before .before .before .loop .inv in
     let k = pick (c .before) in
-    (p .0, (omega (arith, k .terminal, terminals-are (p .0 .holds)), (p .1 .1 .0, (rw (states-are (p .0 .holds)) at (l .3 .stacked), omega (arith, l .3 .low, p .1 .0, l .2), k .ready))))
+    (p .0, (omega (arith, k .terminal, terminals-are (p .0 .fitted .holds)), (p .1 .1 .0, (rw (states-are (p .0 .fitted .holds)) at (l .3 .stacked), omega (arith, l .3 .low, p .1 .0, l .2), k .ready))))
 
 loop-again : tie.Need-loop-again Inv-loop μ-loop
 loop-again c =

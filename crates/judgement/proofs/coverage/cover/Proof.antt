@@ -5,7 +5,7 @@ use Rattle.judgement.proofs.coverage.cover.Statement.{statement}
 use Rattle.judgement.proofs.coverage.cover.Tie as tie
 
 crossings-requires : tie.Need-crossings-requires
-crossings-requires c κs = search needs
+crossings-requires c κs = (c .pre .0, (c .pre .1, c .open-rows .ensures))
 
 from-start-requires : tie.Need-from-start-requires
 from-start-requires c κs = search needs
@@ -22,4 +22,4 @@ returns c = (start-covered (c .before .before .before .before .before .before .b
 pub cover-spec : {M : Type 1} → statement M
 cover-spec =
     tie.close
-    (tie.spec crossings-requires from-start-requires lowest-lacking-requires same-length returns)
+    (tie.spec (λ c κs. search needs) crossings-requires from-start-requires lowest-lacking-requires same-length returns)

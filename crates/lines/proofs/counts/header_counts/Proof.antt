@@ -14,4 +14,4 @@ returns : tie.Need-returns
 returns c = record { fails = _; decides = fails-decides (c .before .before .before .before .before .before .pre .0) (c .before .before .from-start .ensures); actions = c .rows .ensures .0; pairs = c .rows .ensures .1 }
 
 pub header-counts-spec : {M : Type 1} → statement M
-header-counts-spec = tie.close (tie.spec from-start-requires rows-requires returns)
+header-counts-spec = tie.close (tie.spec (λ c κs. search needs) from-start-requires rows-requires returns)
