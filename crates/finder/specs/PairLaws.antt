@@ -49,7 +49,7 @@ module _ {g : ℕ → ℕ} where
 
 -- ---- from the start
 -- the least of the costs to go from the start is that of arriving
-pub start-arrival : {σ : Scale} {B : Tables} {claim : Claims} {s z m : ℕ} {G : ℕ → ℕ} → ((a : ℕ) → a < B .terminals → Least σ (Onward σ B claim (OnePair s z) 0 a) (G a))
+start-arrival : {σ : Scale} {B : Tables} {claim : Claims} {s z m : ℕ} {G : ℕ → ℕ} → ((a : ℕ) → a < B .terminals → Least σ (Onward σ B claim (OnePair s z) 0 a) (G a))
     → Minimum G (B .terminals) m → Least σ (Arrival σ B claim s z) m
 start-arrival {σ} {B} {claim} {s} {z} e x = record {
   below = λ v (a, n, c). let ha = claimed-terminal c in le-trans (x .below a ha) (e a ha .below v (onward-goal (refl, refl) c));

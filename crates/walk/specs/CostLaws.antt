@@ -162,10 +162,6 @@ module _ (σ : Scale) where
       b)
       a
 
--- the same words have the same least cost
-pub exact-map : {σ : Scale} {P Q : List ℕ → Type 0} {v : ℕ} → ((w : List ℕ) → P w ↔ Q w) → Exact σ P v → Exact σ Q v
-exact-map {σ} f e = record { least = λ w q. e .least w (f w .1 q); attained = attained-map σ (λ w p. f w .0 p) (e .attained) }
-
 module _ {σ : Scale} {P : List ℕ → Type 0} where
   exact-le : {u v : ℕ} → Exact σ P u → Exact σ P v → u ≤ v
   exact-le {u} {v} e f = ⊎-elim (λ h. go (e .attained) h) (λ (w, p, h). omega (arith, e .least w p)) (f .attained)
