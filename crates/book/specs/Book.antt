@@ -1,20 +1,10 @@
 -- The table book: what reading it gives, out of bytes and out of cells, and what each call answers and leaves. Assumes nothing.
-use mathlib.Core.Bool.{cond}
-use mathlib.Core.List.{List, [], _∷_, _++_}
-use Prim.Native.Nat.{ℕ, zero, suc, _+_}
-use lib.Dec.{ltb, leb, eqb}
-use lib.ListN.{length, getD}
-use Rattle.number.specs.Lent.{over}
-use Rattle.number.specs.Number.{numberAt, written, value, refusal}
-use Rattle.number.specs.declared.Number.{Number}
-use Rattle.number.specs.declared.Number.the-variants.{Value, Refused}
-use Rattle.number.specs.declared.Refusal.{Refusal}
+use Rattle.number.specs.Words.{cond, List, [], _∷_, _++_, length, getD, ℕ, zero, suc, _+_, ltb, leb, eqb}
+use Rattle.number.specs.{Lent.over, Number.numberAt, Number.written, Number.value, Number.refusal}
+use Rattle.number.specs.declared.{Number.Number, Refusal.Refusal}
 use Rattle.book.specs.Range.{headFault, bodyFault, bodyLength}
 use Rattle.book.specs.Tables.{sizesOf}
-use Rattle.book.specs.declared.Checked.{Checked}
-use Rattle.book.specs.declared.Checked.the-variants.{Valid, Refused as CheckedRefused}
-use Rattle.book.specs.declared.Written.{Written}
-use Rattle.book.specs.declared.Written.the-variants.{Count, Refused as WrittenRefused}
+use Rattle.book.specs.declared.{Checked.Checked, Written.Written}
 
 -- 'In memory the book is its numbers in order, one 16-bit cell each': what stands at an index of the cells, with the next index,
 -- or '1 it stops before a due number is complete'
@@ -33,13 +23,13 @@ before v (refused r) = refused r
 
 -- 'each number by 1, 2, its range': what stands at a place, refused there too where it has a fault
 abbrev pub admitted : (ℕ → ℕ) → ℕ → Number → Number
-admitted fault at (Refused r) = Refused r
-admitted fault at (Value v next) = cond (eqb (fault v) 0) (Value v next) (refusal (fault v) at)
+admitted fault at (Number.Refused r) = Number.Refused r
+admitted fault at (Number.Value v next) = cond (eqb (fault v) 0) (Number.Value v next) (refusal (fault v) at)
 
 -- a number, and the row that goes on after it
 abbrev pub followed : Number → (ℕ → Row) → Row
-followed (Refused r) rest = refused r
-followed (Value v next) rest = before v (rest (next .at))
+followed (Number.Refused r) rest = refused r
+followed (Number.Value v next) rest = before v (rest (next .at))
 
 -- k numbers from a place of the source on, the first of which is number i of its part, each with its fault there
 unfoldable pub row : (ℕ → Number) → (ℕ → ℕ → ℕ) → ℕ → ℕ → ℕ → Row
@@ -74,20 +64,20 @@ bytesOf (n ∷ cells) = written n ++ bytesOf cells
 
 -- what `check` answers
 abbrev pub checked : Row → Checked
-checked (read cells at) = Valid (sizesOf cells)
-checked (refused r) = CheckedRefused r
+checked (read cells at) = Checked.Valid (sizesOf cells)
+checked (refused r) = Checked.Refused r
 
 -- a result at the front of lent memory, the rest of which keeps its values. 'A writer and the cell reader need at least the length of
 -- their result': '12 an output too short', whose place is 0
 abbrev pub put : List ℕ → List ℕ → Written × List ℕ
 put out lent =
-    cond (leb (length out) (length lent)) (Count (length out), over out lent)
-    (WrittenRefused (record { number = 12; place = 0 }), lent)
+    cond (leb (length out) (length lent)) (Written.Count (length out), over out lent)
+    (Written.Refused (record { number = 12; place = 0 }), lent)
 
 -- a refusal 'leaves all lent memory as it found it'
 abbrev pub delivered : (List ℕ → List ℕ) → Row → List ℕ → Written × List ℕ
 delivered f (read cells at) lent = put (f cells) lent
-delivered f (refused r) lent = (WrittenRefused r, lent)
+delivered f (refused r) lent = (Written.Refused r, lent)
 
 -- what `read` answers and leaves in the lent cells
 unfoldable pub reading : List ℕ → List ℕ → Written × List ℕ

@@ -1,13 +1,7 @@
 -- Which numbers are in range where in a book. Assumes nothing.
-use mathlib.Core.Bool.{Bool, true, false, cond, not, _&&_}
-use mathlib.Core.List.{List, [], _∷_}
-use Prim.Native.Nat.{ℕ, _+_, _*_, _-_, _%_, _≤_}
-use lib.Dec.{ltb, leb, eqb}
-use lib.ListN.{getD}
+use Rattle.number.specs.Words.{Bool, true, false, cond, not, _&&_, List, [], _∷_, getD, ℕ, _+_, _*_, _-_, _%_, _≤_, ltb, leb, eqb}
 use Rattle.book.specs.Action.{actionOf}
-use Rattle.book.specs.declared.Action.{Action}
-use Rattle.book.specs.declared.Action.the-variants.{Error, Accept, Shift, Reduce}
-use Rattle.book.specs.declared.Sizes.{Sizes}
+use Rattle.book.specs.declared.{Action.Action, Sizes.Sizes}
 
 -- the number of a refusal where a test fails, 0 where it holds
 abbrev pub unless : Bool → ℕ → ℕ
@@ -31,10 +25,10 @@ headFault i v = unless (leb (getD headLowest i 0) v && leb v (getD headHighest i
 
 -- 'Terminal 0 is the end mark: no state shifts it, and accept stands only under it': the actions allowed under the terminal t
 unfoldable pub allowed : Sizes → ℕ → Action → Bool
-allowed d t Error = true
-allowed d t Accept = eqb t 0
-allowed d t (Shift s) = not (eqb t 0) && ltb s (d .s)
-allowed d t (Reduce p) = ltb p (d .p)
+allowed d t Action.Error = true
+allowed d t Action.Accept = eqb t 0
+allowed d t (Action.Shift s) = not (eqb t 0) && ltb s (d .s)
+allowed d t (Action.Reduce p) = ltb p (d .p)
 
 -- how many numbers follow the first five: 'for each production: its left side and its length', 'for each state, for each terminal,
 -- an action', 'for each state, for each nonterminal, a goto'

@@ -1,13 +1,7 @@
 -- The tables that a book's cells hold: what all higher crates speak about. Assumes nothing.
-use mathlib.Core.Bool.{cond, _&&_}
-use mathlib.Core.List.{List}
-use Prim.Native.Nat.{ℕ, _+_, _*_}
-use lib.Dec.{ltb}
-use lib.ListN.{getD}
+use Rattle.number.specs.Words.{cond, _&&_, List, getD, ℕ, _+_, _*_, ltb}
 use Rattle.book.specs.Action.{actionOf}
-use Rattle.book.specs.declared.Action.{Action}
-use Rattle.book.specs.declared.Action.the-variants.{Error}
-use Rattle.book.specs.declared.Sizes.{Sizes}
+use Rattle.book.specs.declared.{Action.Action, Sizes.Sizes}
 
 -- 'T terminals, N nonterminals, S states, P productions' stand in cells 1 to 4
 unfoldable pub sizesOf : List ℕ → Sizes
@@ -40,7 +34,7 @@ tablesOf cells =
       terminals = d .t;
       nonterminals = d .n;
       states = d .s;
-      act = λ q a. cond (ltb q (d .s) && ltb a (d .t)) (actionOf (getD cells (actionAt d q a) 0)) Error;
+      act = λ q a. cond (ltb q (d .s) && ltb a (d .t)) (actionOf (getD cells (actionAt d q a) 0)) Action.Error;
       goto = λ q X. cond (ltb q (d .s) && ltb X (d .n)) (getD cells (gotoAt d q X) 0) 0;
       lhs = λ p. getD cells (5 + 2 * p) 0;
       len = λ p. getD cells (6 + 2 * p) 0;

@@ -1,9 +1,6 @@
 -- The counts of a listing's header. Assumes nothing.
-use mathlib.Core.Bool.{Bool}
-use mathlib.Core.Path.{_≡_}
-use Prim.Native.Nat.{ℕ, zero, suc, _+_, _<_}
-use Rattle.book.specs.Tables.{Tables}
-use Rattle.book.specs.declared.Sizes.{Sizes}
+use Rattle.number.specs.Words.{Bool, _≡_, ℕ, zero, suc, _+_, _<_}
+use Rattle.book.specs.{Tables.Tables, declared.Sizes.Sizes}
 use Rattle.sets.specs.Set.{countOf}
 use Rattle.finder.specs.Failing.{isError, FailingPair, Decides}
 

@@ -1,8 +1,5 @@
 -- Numbers in decimal digits. Assumes nothing.
-use mathlib.Core.Bool.{cond}
-use mathlib.Core.List.{List, [], _∷_, _++_}
-use Prim.Native.Nat.{ℕ, zero, suc, _+_, _/_, _%_}
-use lib.Dec.{ltb}
+use Rattle.number.specs.Words.{cond, List, [], _∷_, _++_, ℕ, zero, suc, _+_, _/_, _%_, ltb}
 
 -- the digits of a number in ASCII, the highest first, without leading zeros; at most k
 unfoldable pub digits : ℕ → ℕ → List ℕ

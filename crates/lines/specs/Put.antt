@@ -1,8 +1,5 @@
 -- Bytes put at a place of a lent buffer. Assumes nothing.
-use mathlib.Core.List.{List}
-use mathlib.Core.Path.{_≡_}
-use Prim.Native.Nat.{ℕ, _+_}
-use lib.ListN.{length}
+use Rattle.number.specs.Words.{List, length, _≡_, ℕ, _+_}
 use lib.Seq.{sets}
 
 -- the bytes stand there one after the other, all others keep their values, and the place after them is answered

@@ -1,17 +1,8 @@
 -- One entry of a list of sentences: which numbers are in range where, and what reading it at an offset gives. Assumes nothing.
-use mathlib.Core.Bool.{_&&_}
-use mathlib.Core.List.{List}
-use Prim.Native.Nat.{ℕ}
-use lib.Dec.{ltb, leb}
-use lib.ListN.{take, drop}
-use Rattle.number.specs.Number.{numberAt}
-use Rattle.number.specs.declared.Number.{Number}
-use Rattle.number.specs.declared.Number.the-variants.{Value, Refused}
-use Rattle.book.specs.Book.{Row, read, refused, admitted, row}
-use Rattle.book.specs.Range.{unless}
-use Rattle.lists.specs.declared.Entry.{Entry}
-use Rattle.lists.specs.declared.Step.{Step}
-use Rattle.lists.specs.declared.Step.the-variants.{Found, Refused as StepRefused}
+use Rattle.number.specs.Words.{_&&_, List, take, drop, ℕ, ltb, leb}
+use Rattle.number.specs.{Number.numberAt, declared.Number.Number}
+use Rattle.book.specs.{Book.Row, Book.admitted, Book.row, Range.unless}
+use Rattle.lists.specs.declared.{Entry.Entry, Step.Step}
 
 -- the number of a refusal for v below least, or at the limit or above; 0 for none
 unfoldable pub outside : ℕ → ℕ → ℕ → ℕ → ℕ
@@ -35,18 +26,18 @@ lookaheadFault t = outside 0 t 11
 
 -- 'for each its length, symbols and lookahead', each number by 1, 2, its range, and so '8 before 7'. The lookahead ends the entry
 abbrev pub entryEnded : ℕ → ℕ → Number → Step
-entryEnded start len (Refused r) = StepRefused r
-entryEnded start len (Value z next) = Found (record { start = start; len = len; lookahead = z }) next
+entryEnded start len (Number.Refused r) = Step.Refused r
+entryEnded start len (Number.Value z next) = Step.Found (record { start = start; len = len; lookahead = z }) next
 
 -- the symbols were read
 abbrev pub afterSymbols : ℕ → List ℕ → ℕ → ℕ → Row → Step
-afterSymbols t bytes start len (refused r) = StepRefused r
-afterSymbols t bytes start len (read symbols at) = entryEnded start len (admitted (lookaheadFault t) at (numberAt bytes at))
+afterSymbols t bytes start len (Row.refused r) = Step.Refused r
+afterSymbols t bytes start len (Row.read symbols at) = entryEnded start len (admitted (lookaheadFault t) at (numberAt bytes at))
 
 -- the length was read
 abbrev pub afterLength : ℕ → List ℕ → Number → Step
-afterLength t bytes (Refused r) = StepRefused r
-afterLength t bytes (Value len next) = afterSymbols t bytes (next .at) len (symbolRow t bytes (next .at) len)
+afterLength t bytes (Number.Refused r) = Step.Refused r
+afterLength t bytes (Number.Value len next) = afterSymbols t bytes (next .at) len (symbolRow t bytes (next .at) len)
 
 -- the entry at an offset of the bytes: where its symbols begin, how many, its lookahead, and the offset after it; or the refusal
 unfoldable pub entryAt : ℕ → List ℕ → ℕ → Step

@@ -1,11 +1,6 @@
 -- The machine. Assumes nothing.
-use mathlib.Core.Path.{_≡_}
-use mathlib.Core.List.{List, [], _∷_, _++_}
-use Prim.Native.Nat.{ℕ, zero, suc, _≤_, _<_}
-use lib.ListN.{drop}
-use Rattle.book.specs.Tables.{Tables}
-use Rattle.book.specs.declared.Action.{Action}
-use Rattle.book.specs.declared.Action.the-variants.{Error, Accept, Shift, Reduce}
+use Rattle.number.specs.Words.{_≡_, List, [], _∷_, _++_, drop, ℕ, zero, suc, _≤_, _<_}
+use Rattle.book.specs.{Tables.Tables, declared.Action.Action}
 
 -- what a step does: 'accept, error and a broken reduction end it'; a shift pushes a state, a reduction leaves a new stack
 pub data Move : Type 0 where
@@ -24,10 +19,10 @@ lands B X [] = breaks
 lands B X (q ∷ st) = goes (B .goto q X) (q ∷ st)
 
 abbrev pub does : Tables → List ℕ → Action → Move
-does B stack Error = fails
-does B stack Accept = accepts
-does B stack (Shift s) = shifts s
-does B stack (Reduce p) = lands B (B .lhs p) (drop (B .len p) stack)
+does B stack Action.Error = fails
+does B stack Action.Accept = accepts
+does B stack (Action.Shift s) = shifts s
+does B stack (Action.Reduce p) = lands B (B .lhs p) (drop (B .len p) stack)
 
 -- 'a step looks at the top state and the next symbol'; the stack is top first, and never empty
 unfoldable pub next : Tables → List ℕ → ℕ → Move

@@ -1,19 +1,8 @@
 -- A run: the machine under the limits, how it ends, and what the call answers and leaves. Assumes nothing.
-use mathlib.Core.Bool.{Bool, true, false, cond, _&&_}
-use mathlib.Core.List.{List, [], _∷_, _++_, reverse}
-use Prim.Native.Nat.{ℕ, zero, suc, _-_}
-use lib.Dec.{ltb, leb}
-use lib.ListN.{length, getD, drop, replicate}
-use Rattle.book.specs.Book.{ofCells, checked}
-use Rattle.book.specs.Tables.{Tables, tablesOf}
-use Rattle.book.specs.declared.Checked.{Checked}
-use Rattle.book.specs.declared.Checked.the-variants.{Valid, Refused as CheckedRefused}
+use Rattle.number.specs.Words.{Bool, true, false, cond, _&&_, List, [], _∷_, _++_, reverse, length, getD, drop, replicate, ℕ, zero, suc, _-_, ltb, leb}
+use Rattle.book.specs.{Book.ofCells, Book.checked, Tables.Tables, Tables.tablesOf, declared.Checked.Checked}
 use Rattle.machine.specs.Machine.{Move, accepts, fails, breaks, shifts, reduces, next}
-use Rattle.machine.specs.declared.Stop.{Stop}
-use Rattle.machine.specs.declared.Ending.{Ending}
-use Rattle.machine.specs.declared.Ending.the-variants.{Accepted, Error, Broken, Passed, Deep, Spinning}
-use Rattle.machine.specs.declared.Ran.{Ran}
-use Rattle.machine.specs.declared.Ran.the-variants.{Ended, Refused}
+use Rattle.machine.specs.declared.{Stop.Stop, Ending.Ending, Ran.Ran}
 
 -- 'It ends .. with the top state, the symbol looked at and how many were taken in'
 abbrev pub stopped : List ℕ → ℕ → ℕ → Stop
@@ -21,12 +10,12 @@ stopped st a taken = record { state = getD st 0 0; symbol = a; taken = taken }
 
 -- .. which every ending holds
 abbrev pub stopOf : Ending → Stop
-stopOf (Accepted stop) = stop
-stopOf (Error stop) = stop
-stopOf (Broken stop) = stop
-stopOf (Passed stop) = stop
-stopOf (Deep stop) = stop
-stopOf (Spinning stop) = stop
+stopOf (Ending.Accepted stop) = stop
+stopOf (Ending.Error stop) = stop
+stopOf (Ending.Broken stop) = stop
+stopOf (Ending.Passed stop) = stop
+stopOf (Ending.Deep stop) = stop
+stopOf (Ending.Spinning stop) = stop
 
 -- 'Deep: a push would make 1,025 states'
 abbrev pub tooMany : List ℕ → Bool
@@ -42,12 +31,12 @@ pub data Limited : ℕ → Type 0 where
 -- 'Accept, error and a broken reduction end it'; 'Spinning: 4,096 reductions were done since the last shift, or the start, and a further
 -- one can be done'; 'Before a reduction the order is broken, spinning, deep'
 abbrev pub limited : (left : ℕ) → Stop → List ℕ → Move → Limited left
-limited left stop st accepts = stops (Accepted stop) st
-limited left stop st fails = stops (Error stop) st
-limited left stop st breaks = stops (Broken stop) st
+limited left stop st accepts = stops (Ending.Accepted stop) st
+limited left stop st fails = stops (Ending.Error stop) st
+limited left stop st breaks = stops (Ending.Broken stop) st
 limited left stop st (shifts s) = toShift s st
-limited zero stop st (reduces new) = stops (Spinning stop) st
-limited (suc k) stop st (reduces new) = cond (tooMany new) (stops (Deep stop) st) (reducedTo new)
+limited zero stop st (reduces new) = stops (Ending.Spinning stop) st
+limited (suc k) stop st (reduces new) = cond (tooMany new) (stops (Ending.Deep stop) st) (reducedTo new)
 
 -- the reductions before the symbol a, one after the other: what comes of the first move that is none, or one too many
 unfoldable pub reducing : Tables → ℕ → ℕ → ℕ → List ℕ → Limited 0
@@ -60,12 +49,12 @@ reducing B a taken (suc k) st =
 -- the symbol in and pushes the state'; 'passed (all of w is in and z would be shifted, however full the stack)'
 unfoldable pub runs : Tables → ℕ → List ℕ → ℕ → List ℕ → Ending × List ℕ
 runs B z [] taken st =
-    elim (reducing B z taken 4096 st) [ stops e top ↦ (e, top) | toShift s top ↦ (Passed (stopped top z taken), top) ]
+    elim (reducing B z taken 4096 st) [ stops e top ↦ (e, top) | toShift s top ↦ (Ending.Passed (stopped top z taken), top) ]
 runs B z (a ∷ w) taken st =
     elim (reducing B a taken 4096 st) [
       | stops e top ↦ (e, top)
       | toShift s top ↦
-          elim (tooMany (s ∷ top)) [ true ↦ (Deep (stopped top a taken), top) | false ↦ runs B z w (suc taken) (s ∷ top) ]
+          elim (tooMany (s ∷ top)) [ true ↦ (Ending.Deep (stopped top a taken), top) | false ↦ runs B z w (suc taken) (s ∷ top) ]
     ]
 
 -- 'A sentence w is up to 1,000 symbols from 1 to T - 1': how many stand before the first that 'is 0, or T or more'
@@ -76,11 +65,11 @@ soundPrefix T (a ∷ w) = cond (leb 1 a && ltb a T) (suc (soundPrefix T w)) 0
 -- the refusals after the book's, in their order: '8 a sentence has over 1,000 symbols', '7 a symbol is 0, or T or more', '11 lookahead T
 -- or more', '13 work or stack cells too few'; what is left is the sizes
 unfoldable pub runAdmits : List ℕ → ℕ → ℕ → Checked → Checked
-runAdmits w z room (CheckedRefused r) = CheckedRefused r
-runAdmits w z room (Valid d) =
-    cond (ltb 1000 (length w)) (CheckedRefused (record { number = 8; place = 0 }))
-    (cond (ltb (soundPrefix (d .t) w) (length w)) (CheckedRefused (record { number = 7; place = soundPrefix (d .t) w }))
-    (cond (leb (d .t) z) (CheckedRefused (record { number = 11; place = 0 })) (cond (ltb room 1024) (CheckedRefused (record { number = 13; place = 0 })) (Valid d))))
+runAdmits w z room (Checked.Refused r) = Checked.Refused r
+runAdmits w z room (Checked.Valid d) =
+    cond (ltb 1000 (length w)) (Checked.Refused (record { number = 8; place = 0 }))
+    (cond (ltb (soundPrefix (d .t) w) (length w)) (Checked.Refused (record { number = 7; place = soundPrefix (d .t) w }))
+    (cond (leb (d .t) z) (Checked.Refused (record { number = 11; place = 0 })) (cond (ltb room 1024) (Checked.Refused (record { number = 13; place = 0 })) (Checked.Valid d))))
 
 -- 'The first 1,024 cells then hold the stack before the step that was not taken, bottom first, then zeros'; later ones keep their values
 abbrev pub stackLeft : List ℕ → List ℕ → List ℕ
@@ -90,4 +79,4 @@ stackLeft st lent = reverse st ++ replicate (1024 - length st) 0 ++ drop 1024 le
 unfoldable pub running : List ℕ → List ℕ → ℕ → List ℕ → Ran × List ℕ
 running cells w z lent =
     elim (runAdmits w z (length lent) (checked (ofCells cells)))
-    [ CheckedRefused r ↦ (Refused r, lent) | Valid d ↦ let (e, st) = runs (tablesOf cells) z w 0 (0 ∷ []) in (Ended e, stackLeft st lent) ]
+    [ Checked.Refused r ↦ (Ran.Refused r, lent) | Checked.Valid d ↦ let (e, st) = runs (tablesOf cells) z w 0 (0 ∷ []) in (Ran.Ended e, stackLeft st lent) ]

@@ -1,19 +1,14 @@
 -- One number: how it is written, and what reading it at an offset gives. Assumes nothing.
-use mathlib.Core.Bool.{cond, _||_}
-use mathlib.Core.List.{List, [], _∷_}
-use Prim.Native.Nat.{ℕ, zero, suc, _+_, _*_, _/_, _%_}
-use lib.Dec.{ltb, leb, eqb}
-use lib.ListN.{drop}
+use Rattle.number.specs.Words.{List, [], _∷_, ℕ, zero, suc, _+_, _*_, _/_, _%_, cond, _||_, ltb, leb, eqb, drop}
 use Rattle.number.specs.declared.Number.{Number}
-use Rattle.number.specs.declared.Number.the-variants.{Value, Refused}
 
 -- 'A refusal is a number and a place'
 abbrev pub refusal : ℕ → ℕ → Number
-refusal number place = Refused (record { number = number; place = place })
+refusal number place = Number.Refused (record { number = number; place = place })
 
 -- a number with the offset after it
 abbrev pub value : ℕ → ℕ → Number
-value n next = Value n (record { at = next })
+value n next = Number.Value n (record { at = next })
 
 -- 'Each number is written in groups of seven bits, lowest group first, one group a byte, the byte's top bit set on all but the last.'
 -- 'It takes one to three bytes, the fewest possible': at most k bytes

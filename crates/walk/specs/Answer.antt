@@ -1,12 +1,8 @@
 -- What the finder answers for one pair. Assumes nothing.
-use mathlib.Core.List.{List}
-use mathlib.Core.Logic.{_≢_}
-use Prim.Native.Nat.{ℕ, _≤_, _<_}
+use Rattle.number.specs.Words.{List, _≢_, ℕ, _≤_, _<_}
 use Rattle.book.specs.Tables.{Tables}
 use Rattle.machine.specs.Machine.{Reaches}
-use Rattle.walk.specs.Scale.{Scale, long, unreached}
-use Rattle.walk.specs.Cost.{cost}
-use Rattle.walk.specs.Order.{Better}
+use Rattle.walk.specs.{Scale.Scale, Scale.long, Scale.unreached, Cost.cost, Order.Better}
 
 -- 'For one pair the finder answers unreached, long or else a sentence'
 pub data Outcome : Type 0 where

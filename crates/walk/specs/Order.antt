@@ -1,12 +1,7 @@
 -- The order of words. Assumes nothing.
-use mathlib.Core.List.{List, _∷_}
-use mathlib.Core.Logic.{_⊎_}
-use mathlib.Core.Path.{_≡_}
-use Prim.Native.Nat.{ℕ, _<_}
-use lib.ListN.{length}
+use Rattle.number.specs.Words.{List, _∷_, length, _⊎_, _≡_, ℕ, _<_}
 use Rattle.book.specs.Tables.{Tables}
-use Rattle.walk.specs.Scale.{Scale}
-use Rattle.walk.specs.Cost.{cost}
+use Rattle.walk.specs.{Scale.Scale, Cost.cost}
 
 -- 'Of two different sequences of equal length, the one with the smaller terminal number at the first difference is earlier in order';
 -- a terminal's number here is its rank

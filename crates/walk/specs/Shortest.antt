@@ -1,8 +1,5 @@
 -- The answer in the words of forms 1 and 2; `best-shortest` shows that `Best plain` is this. Assumes nothing.
-use mathlib.Core.List.{List}
-use mathlib.Core.Logic.{_⊎_, _≢_}
-use Prim.Native.Nat.{ℕ, _≤_, _<_}
-use lib.ListN.{length}
+use Rattle.number.specs.Words.{List, length, _⊎_, _≢_, ℕ, _≤_, _<_}
 use Rattle.walk.specs.Order.{Before}
 use Rattle.walk.specs.Answer.{Outcome, Unreached, Long, Sentence}
 
