@@ -6,8 +6,7 @@ use Rattle.book.specs.Range.{headFault, bodyFault, bodyLength}
 use Rattle.book.specs.Tables.{sizesOf}
 use Rattle.book.specs.declared.{Checked.Checked, Written.Written}
 
--- 'In memory the book is its numbers in order, one 16-bit cell each': what stands at an index of the cells, with the next index,
--- or '1 it stops before a due number is complete'
+-- 'In memory the book is its numbers in order, one 16-bit cell each': what stands at an index, or '1 it stops before a due number is complete'
 unfoldable pub cellAt : List ℕ → ℕ → Number
 cellAt cells i = cond (ltb i (length cells)) (value (getD cells i 0) (i + 1)) (refusal 1 i)
 
@@ -67,17 +66,14 @@ abbrev pub checked : Row → Checked
 checked (read cells at) = Checked.Valid (sizesOf cells)
 checked (refused r) = Checked.Refused r
 
--- a result at the front of lent memory, the rest of which keeps its values. 'A writer and the cell reader need at least the length of
--- their result': '12 an output too short', whose place is 0
-abbrev pub put : List ℕ → List ℕ → Written × List ℕ
-put out lent =
+-- a result at the front of lent memory. 'A writer and the cell reader need at least the length of their result': '12 an output too short',
+-- whose place is 0. A refusal 'leaves all lent memory as it found it'
+abbrev pub delivered : (List ℕ → List ℕ) → Row → List ℕ → Written × List ℕ
+delivered f (refused r) lent = (Written.Refused r, lent)
+delivered f (read cells at) lent =
+    let out = f cells in
     cond (leb (length out) (length lent)) (Written.Count (length out), over out lent)
     (Written.Refused (record { number = 12; place = 0 }), lent)
-
--- a refusal 'leaves all lent memory as it found it'
-abbrev pub delivered : (List ℕ → List ℕ) → Row → List ℕ → Written × List ℕ
-delivered f (read cells at) lent = put (f cells) lent
-delivered f (refused r) lent = (Written.Refused r, lent)
 
 -- what `read` answers and leaves in the lent cells
 unfoldable pub reading : List ℕ → List ℕ → Written × List ℕ

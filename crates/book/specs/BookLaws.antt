@@ -19,7 +19,8 @@ use Rattle.number.specs.declared.Number.{Number}
 use Rattle.number.specs.declared.Number.the-variants.{Value, Refused}
 use Rattle.number.specs.declared.Refusal.{Refusal}
 use Rattle.book.specs.Book.{cellAt, Row, read, refused, row, whole, bookIn, ofCells, checked, delivered}
-use Rattle.book.specs.Range.{headLowest, headHighest, headNumber, headFault, bodyFault, bodyLength, Small}
+use Rattle.book.specs.Range.{headLowest, headHighest, headNumber, headFault, bodyFault, bodyLength}
+use Rattle.book.specs.RangeLaws.{Small}
 use Rattle.book.specs.RowLaws.{ends, row-front, row-empty, row-length, row-clean, values, values-row, values-all}
 use Rattle.book.specs.Tables.{sizesOf}
 use Rattle.book.specs.declared.Checked.{Checked}

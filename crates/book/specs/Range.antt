@@ -1,5 +1,5 @@
 -- Which numbers are in range where in a book. Assumes nothing.
-use Rattle.number.specs.Words.{Bool, true, false, cond, not, _&&_, List, [], _∷_, getD, ℕ, _+_, _*_, _-_, _%_, _≤_, ltb, leb, eqb}
+use Rattle.number.specs.Words.{Bool, true, false, cond, not, _&&_, List, [], _∷_, getD, ℕ, _+_, _*_, _-_, _%_, ltb, leb, eqb}
 use Rattle.book.specs.Action.{actionOf}
 use Rattle.book.specs.declared.{Action.Action, Sizes.Sizes}
 
@@ -45,12 +45,3 @@ fits d i v =
 -- '5 a left side, length, action or goto outside its range, a shift under terminal 0, or accept under another terminal'
 unfoldable pub bodyFault : Sizes → ℕ → ℕ → ℕ
 bodyFault d i v = unless (fits d i v) 5
-
--- what a head in range says of the sizes
-pub record Small (d : Sizes) : Type 0 where
-  pub some-terminal : 1 ≤ d .t
-  pub terminals : d .t ≤ 32
-  pub nonterminals : d .n ≤ 32
-  pub some-state : 1 ≤ d .s
-  pub states : d .s ≤ 128
-  pub productions : d .p ≤ 128

@@ -13,13 +13,13 @@ use lib.Seq.{drop-cons, drop-drop, getD-append-add, getD-drop, getD-take, take-a
 use Rattle.number.specs.TestLaws.{tests}
 use Rattle.number.specs.Number.{written}
 use Rattle.number.specs.NumberLaws.{Bytes, written-one, written-two}
-use Rattle.book.specs.Action.{actionOf, codeOf}
-use Rattle.book.specs.ActionLaws.{action-odd, code-action}
+use Rattle.book.specs.Action.{actionOf}
+use Rattle.book.specs.ActionLaws.{action-odd, code-action, codeOf}
 use Rattle.book.specs.Book.{cellAt, read, row, bookIn, ofBytes, ofCells, bytesOf, checked}
 use Rattle.book.specs.BookLaws.{book-whole, cells-row, checked-valid, head-range, sizes-take}
 use Rattle.book.specs.BytesLaws.{bytes-append}
-use Rattle.book.specs.Range.{headHighest, headFault, bodyFault, bodyLength, allowed, fits, Small}
-use Rattle.book.specs.RangeLaws.{actions-few, gotos-few}
+use Rattle.book.specs.Range.{headHighest, headFault, bodyFault, bodyLength, allowed, fits}
+use Rattle.book.specs.RangeLaws.{actions-few, gotos-few, Small}
 use Rattle.book.specs.RoundTripLaws.{read-written, written-read}
 use Rattle.book.specs.RowLaws.{row-clean}
 use Rattle.book.specs.Tables.{sizesOf}

@@ -7,8 +7,7 @@ use Rattle.book.specs.declared.{Action.Action, Sizes.Sizes}
 unfoldable pub sizesOf : List ℕ → Sizes
 sizesOf cells = record { t = getD cells 1 0; n = getD cells 2 0; s = getD cells 3 0; p = getD cells 4 0 }
 
--- the action of a state under a terminal; the goto of a state under a nonterminal, 0 for none, else the state + 1;
--- a production's left side and length
+-- the action of a state under a terminal; its goto under a nonterminal, '0 none, else state + 1'; a production's left side and length
 pub record Tables : Type 0 where
   pub terminals : ℕ
   pub nonterminals : ℕ
@@ -18,11 +17,10 @@ pub record Tables : Type 0 where
   pub lhs : ℕ → ℕ
   pub len : ℕ → ℕ
 
--- where the cell of the action of state q under the terminal a stands
+-- where the cells of the action of state q under the terminal a, and of its goto under the nonterminal X, stand
 abbrev pub actionAt : Sizes → ℕ → ℕ → ℕ
 actionAt d q a = 5 + 2 * d .p + (q * d .t + a)
 
--- where the cell of the goto of state q under the nonterminal X stands
 abbrev pub gotoAt : Sizes → ℕ → ℕ → ℕ
 gotoAt d q X = 5 + 2 * d .p + d .s * d .t + (q * d .n + X)
 

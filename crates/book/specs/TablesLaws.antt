@@ -16,7 +16,8 @@ use Rattle.book.specs.Action.{actionOf}
 use Rattle.book.specs.Book.{cellAt, read, row, ofCells, bookIn, checked}
 use Rattle.book.specs.BookLaws.{book-whole, cells-row, cells-valid, checked-valid, whole-small, whole-count, whole-sizes}
 use Rattle.book.specs.IndexLaws.{index-below}
-use Rattle.book.specs.Range.{allowed, fits, headFault, bodyFault, bodyLength, unless, Small}
+use Rattle.book.specs.Range.{allowed, fits, headFault, bodyFault, bodyLength, unless}
+use Rattle.book.specs.RangeLaws.{Small}
 use Rattle.book.specs.RowLaws.{row-clean}
 use Rattle.book.specs.Tables.{Tables, sizesOf, tablesOf, actionAt, gotoAt}
 use Rattle.book.specs.declared.Action.{Action}

@@ -13,7 +13,7 @@ use Rattle.book.specs.TablesLaws.{Holds, in-range, goto-some}
 use Rattle.book.specs.declared.Action.the-variants.{Shift}
 use Rattle.book.specs.declared.Sizes.{Sizes}
 use Rattle.walk.specs.Walk.{WalksTo}
-use Rattle.walk.specs.Scale.{Scale, unreached, shiftCost}
+use Rattle.walk.specs.Scale.{Scale, unreached}
 use Rattle.walk.specs.Cost.{Exact}
 use Rattle.walk.specs.CostLaws.{plus-far-left, plus-far-right}
 use Rattle.walk.specs.Claims.{Claims, Least, Weighs}
@@ -21,6 +21,7 @@ use Rattle.walk.specs.MatchesLaws.{matches-exact, exact-matches}
 use Rattle.walk.specs.ClaimsLaws.{weights-least, onward-matches}
 use Rattle.walk.specs.Layers.{Sooner, from-shift, from-goto, ToGoal}
 use Rattle.walk.specs.LayersLaws.{goal-least}
+use Rattle.walk.specs.Sum.{shiftCost}
 use Rattle.layers.specs.Crossing.{crossingRow, claimIn}
 use Rattle.layers.specs.Opening.{rowIn, Skips}
 use Rattle.layers.specs.CrossingLaws.{terminals-are, states-are}

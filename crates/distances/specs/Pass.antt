@@ -7,10 +7,10 @@ use lib.ListN.{length, getD}
 use Rattle.book.specs.Tables.{Tables}
 use Rattle.book.specs.declared.Action.the-variants.{Shift}
 use Rattle.book.specs.declared.Sizes.{Sizes}
-use Rattle.walk.specs.Scale.{Scale, unreached, shiftCost}
-use Rattle.walk.specs.Cost.{plus}
+use Rattle.walk.specs.Scale.{Scale, unreached}
 use Rattle.walk.specs.Claims.{Claims, Arrival, OnwardTo, Weighs}
 use Rattle.walk.specs.Layers.{Sooner}
+use Rattle.walk.specs.Sum.{shiftCost, plus}
 use Rattle.layers.specs.Layer.{entryIn}
 use Rattle.layers.specs.Step.{TableStep, Upto}
 use Rattle.crossings.specs.Falling.{Fallen}

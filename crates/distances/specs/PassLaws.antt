@@ -10,11 +10,11 @@ use lib.ListN.{length, getD, set, length-set}
 use lib.Seq.{set-getD}
 use Rattle.book.specs.Tables.{Tables}
 use Rattle.walk.specs.Scale.{Scale, unreached}
-use Rattle.walk.specs.Cost.{plus}
 use Rattle.walk.specs.CostLaws.{zero-plus, plus-assoc, plus-far-right}
 use Rattle.walk.specs.Claims.{Claims, none, OnwardTo, Weighs}
 use Rattle.walk.specs.ClaimsLaws.{claimed-next, claimed-append, claimed-shift, claimed-goto, onward}
 use Rattle.walk.specs.Layers.{Sooner, from-shift, from-goto}
+use Rattle.walk.specs.Sum.{plus}
 use Rattle.layers.specs.Step.{Upto}
 use Rattle.layers.specs.StepLaws.{step-zero, step-more, step-least, step-none}
 use Rattle.crossings.specs.Falling.{Stored, kept, stored, Pass}

@@ -8,7 +8,7 @@ use Rattle.book.specs.TablesLaws.{Holds}
 use Rattle.book.specs.declared.Action.{Action}
 use Rattle.book.specs.declared.Action.the-variants.{Error, Accept, Shift, Reduce}
 use Rattle.book.specs.declared.Sizes.{Sizes}
-use Rattle.sets.specs.Set.{member}
+use Rattle.sets.specs.Bits.{member}
 use Rattle.sets.specs.SetLaws.{set-member}
 use Rattle.walk.specs.Scale.{plain}
 use Rattle.layers.specs.CrossingLaws.{terminals-are}

@@ -6,7 +6,7 @@ use native.Mathlib.Omega.{arith}
 use lib.ListN.{replicate, drop, length-replicate}
 use Rattle.number.specs.Lent.{over}
 use Rattle.book.specs.IndexLaws.{mul-small}
-use Rattle.book.specs.Range.{Small}
+use Rattle.book.specs.RangeLaws.{Small}
 use Rattle.book.specs.declared.Sizes.{Sizes}
 use Rattle.finder.specs.Finder.{workCells}
 

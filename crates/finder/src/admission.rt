@@ -4,7 +4,7 @@ ghost use Prim.Native.Nat.{_≤_};
 ghost use lib.ListN.{length, replicate};
 ghost use Rattle.number.specs.Lent.{over};
 ghost use Rattle.book.specs.Book.{ofCells, checked};
-ghost use Rattle.book.specs.Range.{Small};
+ghost use Rattle.book.specs.RangeLaws.{Small};
 ghost use Rattle.finder.specs.Finder.{workCells, refused, admitsPair, admitsMap, admitsSets};
 use book::Checked;
 use book::Sizes;

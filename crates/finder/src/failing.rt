@@ -4,7 +4,7 @@ ghost use mathlib.Core.Path.{_≡_};
 ghost use Prim.Native.Nat.{_<_};
 ghost use Rattle.book.specs.Tables.{tablesOf};
 ghost use Rattle.book.specs.TablesLaws.{Holds};
-ghost use Rattle.sets.specs.Set.{member};
+ghost use Rattle.sets.specs.Bits.{member};
 ghost use Rattle.finder.specs.Failing.{isError};
 use book::Action;
 use book::Sizes;

@@ -5,7 +5,7 @@ use Prim.Native.Nat.{ℕ, zero, suc, _+_, _*_, _≤_, _<_}
 use native.Mathlib.Omega.{arith}
 use lib.ListN.{length}
 use Rattle.book.specs.IndexLaws.{index-below, row-below, index-first, index-second, mul-small}
-use Rattle.book.specs.Range.{Small}
+use Rattle.book.specs.RangeLaws.{Small}
 use Rattle.book.specs.Tables.{tablesOf}
 use Rattle.book.specs.TablesLaws.{Holds, goto-some, left-side-below, length-most}
 use Rattle.book.specs.declared.Sizes.{Sizes}

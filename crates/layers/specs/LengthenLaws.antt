@@ -10,11 +10,11 @@ use Rattle.book.specs.Tables.{Tables, tablesOf}
 use Rattle.book.specs.TablesLaws.{Holds, in-range, goto-some}
 use Rattle.book.specs.declared.Action.the-variants.{Shift}
 use Rattle.book.specs.declared.Sizes.{Sizes}
-use Rattle.walk.specs.Scale.{Scale, unreached, shiftCost}
-use Rattle.walk.specs.Cost.{plus}
+use Rattle.walk.specs.Scale.{Scale, unreached}
 use Rattle.walk.specs.CostLaws.{plus-far-left, plus-far-right}
 use Rattle.walk.specs.Claims.{Claims}
 use Rattle.walk.specs.Layers.{Longer, add-shift, add-goto}
+use Rattle.walk.specs.Sum.{shiftCost, plus}
 use Rattle.layers.specs.Layer.{entryIn, valueIn, Wanted, Lengthened, LengthenedTo}
 use Rattle.layers.specs.LayerLaws.{TurnedOn}
 use Rattle.layers.specs.Crossing.{crossingRow, claimIn}

@@ -6,11 +6,11 @@ use native.Mathlib.Decide.{ℕ-discrete}
 use native.Mathlib.Omega.{arith}
 use lib.ListN.{length, getD, set, length-set}
 use lib.Seq.{getD-set-same, getD-set-other}
-use Rattle.book.specs.Range.{Small}
 use Rattle.book.specs.Tables.{Tables, tablesOf}
 use Rattle.book.specs.TablesLaws.{Holds, act-some, goto-some}
 use Rattle.book.specs.declared.Action.the-variants.{Shift}
 use Rattle.book.specs.declared.Sizes.{Sizes}
+use Rattle.book.specs.RangeLaws.{Small}
 use Rattle.machine.specs.MachineLaws.{clash}
 use Rattle.walk.specs.Scale.{Scale}
 use Rattle.walk.specs.Claims.{Claims, Witnessed}

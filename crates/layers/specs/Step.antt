@@ -7,8 +7,8 @@ use lib.ListN.{getD}
 use Rattle.book.specs.Tables.{Tables}
 use Rattle.book.specs.declared.Action.the-variants.{Shift}
 use Rattle.book.specs.declared.Sizes.{Sizes}
-use Rattle.walk.specs.Scale.{Scale, unreached, shiftCost}
-use Rattle.walk.specs.Cost.{plus}
+use Rattle.walk.specs.Scale.{Scale, unreached}
+use Rattle.walk.specs.Sum.{plus, shiftCost}
 use Rattle.walk.specs.Claims.{Claims}
 use Rattle.layers.specs.Layer.{Wanted}
 

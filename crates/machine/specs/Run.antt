@@ -1,5 +1,5 @@
 -- A run: the machine under the limits, how it ends, and what the call answers and leaves. Assumes nothing.
-use Rattle.number.specs.Words.{Bool, true, false, cond, _&&_, List, [], _∷_, _++_, reverse, length, getD, drop, replicate, ℕ, zero, suc, _-_, ltb, leb}
+use Rattle.number.specs.Words.{true, false, cond, _&&_, List, [], _∷_, _++_, reverse, length, getD, drop, replicate, ℕ, zero, suc, _-_, ltb, leb}
 use Rattle.book.specs.{Book.ofCells, Book.checked, Tables.Tables, Tables.tablesOf, declared.Checked.Checked}
 use Rattle.machine.specs.Machine.{Move, accepts, fails, breaks, shifts, reduces, next}
 use Rattle.machine.specs.declared.{Stop.Stop, Ending.Ending, Ran.Ran}
@@ -17,26 +17,22 @@ stopOf (Ending.Passed stop) = stop
 stopOf (Ending.Deep stop) = stop
 stopOf (Ending.Spinning stop) = stop
 
--- 'Deep: a push would make 1,025 states'
-abbrev pub tooMany : List ℕ → Bool
-tooMany new = ltb 1024 (length new)
-
--- what comes of a move where as many more reductions may be done as the number says: the run ends or the symbol is to be shifted, with
--- 'the stack before the step that was not taken'; or, only if one may be done, a reduction leaves a new stack
+-- what comes of a move with so many reductions left: an ending or a shift to do, with 'the stack before the step that was not taken'; or,
+-- only if one is left, the stack after a reduction
 pub data Limited : ℕ → Type 0 where
   stops : {left : ℕ} → Ending → List ℕ → Limited left
   toShift : {left : ℕ} → ℕ → List ℕ → Limited left
   reducedTo : {k : ℕ} → List ℕ → Limited (suc k)
 
 -- 'Accept, error and a broken reduction end it'; 'Spinning: 4,096 reductions were done since the last shift, or the start, and a further
--- one can be done'; 'Before a reduction the order is broken, spinning, deep'
+-- one can be done'; 'Deep: a push would make 1,025 states'; 'Before a reduction the order is broken, spinning, deep'
 abbrev pub limited : (left : ℕ) → Stop → List ℕ → Move → Limited left
 limited left stop st accepts = stops (Ending.Accepted stop) st
 limited left stop st fails = stops (Ending.Error stop) st
 limited left stop st breaks = stops (Ending.Broken stop) st
 limited left stop st (shifts s) = toShift s st
 limited zero stop st (reduces new) = stops (Ending.Spinning stop) st
-limited (suc k) stop st (reduces new) = cond (tooMany new) (stops (Ending.Deep stop) st) (reducedTo new)
+limited (suc k) stop st (reduces new) = cond (ltb 1024 (length new)) (stops (Ending.Deep stop) st) (reducedTo new)
 
 -- the reductions before the symbol a, one after the other: what comes of the first move that is none, or one too many
 unfoldable pub reducing : Tables → ℕ → ℕ → ℕ → List ℕ → Limited 0
@@ -54,7 +50,7 @@ runs B z (a ∷ w) taken st =
     elim (reducing B a taken 4096 st) [
       | stops e top ↦ (e, top)
       | toShift s top ↦
-          elim (tooMany (s ∷ top)) [ true ↦ (Ending.Deep (stopped top a taken), top) | false ↦ runs B z w (suc taken) (s ∷ top) ]
+          elim (ltb 1024 (length (s ∷ top))) [ true ↦ (Ending.Deep (stopped top a taken), top) | false ↦ runs B z w (suc taken) (s ∷ top) ]
     ]
 
 -- 'A sentence w is up to 1,000 symbols from 1 to T - 1': how many stand before the first that 'is 0, or T or more'

@@ -5,6 +5,7 @@ use mathlib.Core.List.{List, [], _∷_, _++_}
 use Prim.Native.Nat.{ℕ, zero, suc, _+_, _≤_}
 use native.Mathlib.Nat.{zero-add, add-zero, add-suc, suc-add}
 use native.Mathlib.Omega.{arith}
+use lib.Dec.{ltb}
 use lib.ListN.{length, drop, getD}
 use lib.Seq.{drop-length}
 use Rattle.book.specs.Tables.{Tables}
@@ -14,7 +15,7 @@ use Rattle.machine.specs.Machine.{Move, accepts, fails, breaks, shifts, 
 use Rattle.machine.specs.MachineLaws.{_⊕_, clash, next-empty}
 use Rattle.machine.specs.AdmissionLaws.{sound-head}
 use Rattle.machine.specs.ReducingLaws.{turn-stops, turn-shift}
-use Rattle.machine.specs.Run.{Limited, stops, toShift, stopped, stopOf, tooMany, reducing, runs, soundPrefix}
+use Rattle.machine.specs.Run.{Limited, stops, toShift, stopped, stopOf, reducing, runs, soundPrefix}
 use Rattle.machine.specs.declared.Ending.{Ending}
 use Rattle.machine.specs.declared.Ending.the-variants.{Accepted, Error, Broken, Passed, Deep, Spinning}
 use Rattle.machine.specs.declared.Stop.{Stop}
@@ -55,7 +56,7 @@ module _ (B : Tables) (a taken : ℕ) (u : List ℕ) (n : ℕ) where
   unfolding reducing
   after-none st new e = let g : Goes (next B st a) = rw e by-reduction in rw e (done, refl, g)
 
-  after-more : (k : ℕ) (st new : List ℕ) → next B st a ≡ reduces new → After B a taken u n new (reducing B a taken k new) → (b : Bool) → tooMany new ≡ b
+  after-more : (k : ℕ) (st new : List ℕ) → next B st a ≡ reduces new → After B a taken u n new (reducing B a taken k new) → (b : Bool) → ltb 1024 (length new) ≡ b
       → After B a taken u n st (reducing B a taken (suc k) st)
   unfolding reducing
   after-more k st new e x true t = let g : Goes (next B st a) = rw e by-reduction in rw (reducing, e, t) (done, refl, g)
@@ -63,7 +64,7 @@ module _ (B : Tables) (a taken : ℕ) (u : List ℕ) (n : ℕ) where
 
   after-reducing : (left : ℕ) (st : List ℕ) → After B a taken u n st (reducing B a taken left st)
   after-reducing zero st = after-move zero st (next B st a) refl (after-none st)
-  after-reducing (suc k) st = after-move (suc k) st (next B st a) refl (λ new e. after-more k st new e (after-reducing k new) (tooMany new) refl)
+  after-reducing (suc k) st = after-move (suc k) st (next B st a) refl (λ new e. after-more k st new e (after-reducing k new) (ltb 1024 (length new)) refl)
 
 -- ---- the symbols: how the run goes on from a stack with v still to come and k taken in
 record Ends (B : Tables) (z : ℕ) (v : List ℕ) (k : ℕ) (st₀ : List ℕ) (o : Ending × List ℕ) : Type 0 where
@@ -115,9 +116,9 @@ module _ (B : Tables) (z k : ℕ) where
         → After B a k (w ++ (z ∷ [])) (k + suc (length w)) st₀ o → Ends B z (a ∷ w) k st₀ (runs B z (a ∷ w) k st₀)
     unfolding runs
     ends-first st₀ f (stops e st) i (r, s, n) = rw (runs, i) (here a (w ++ (z ∷ [])) (a ∷ w) st₀ st e refl r s n)
-    ends-first st₀ f (toShift s st) i (r, n) = go (tooMany (s ∷ st)) refl
+    ends-first st₀ f (toShift s st) i (r, n) = go (ltb 1024 (length (s ∷ st))) refl
       where
-        go : (b : Bool) → tooMany (s ∷ st) ≡ b → Ends B z (a ∷ w) k st₀ (runs B z (a ∷ w) k st₀)
+        go : (b : Bool) → ltb 1024 (length (s ∷ st)) ≡ b → Ends B z (a ∷ w) k st₀ (runs B z (a ∷ w) k st₀)
         go true t = rw (runs, i, t) (here a (w ++ (z ∷ [])) (a ∷ w) st₀ st (Deep (stopped st a k)) refl r refl (rw n by-shift))
         go false t = rw (runs, i, t) (later st₀ st s (runs B z w (suc k) (s ∷ st)) r n (f (s ∷ st)))
 

@@ -11,7 +11,8 @@ use lib.Bits.{bitOr, or-shifted-r, or-block, or-step, or-zero-r}
 use lib.Pow.{pow-pos, pow-add}
 use lib.Dec.{eqb}
 use lib.Count.{ones, ones-cat}
-use Rattle.sets.specs.Set.{setOf, countOf, member}
+use Rattle.sets.specs.Set.{setOf, countOf}
+use Rattle.sets.specs.Bits.{member}
 
 -- a member counts as one block of bits, above those below it
 one-of : (b : Bool) (p : ℕ) → cond b p 0 ≡ cond b 1 0 * p

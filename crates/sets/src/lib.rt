@@ -5,7 +5,8 @@ ghost use Prim.Native.Nat.{_≤_, _<_, _^_};
 ghost use lib.Bits.{bitOr};
 ghost use lib.Count.{ones};
 ghost use lib.ListN.{length};
-ghost use Rattle.sets.specs.Set.{setOf, member, below};
+ghost use Rattle.sets.specs.Set.{setOf};
+ghost use Rattle.sets.specs.Bits.{member, below};
 
 // The set with z in it.
 pub fn insert(set: u32, z: usize) -> u32

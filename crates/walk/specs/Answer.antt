@@ -2,18 +2,12 @@
 use Rattle.number.specs.Words.{List, _≢_, ℕ, _≤_, _<_}
 use Rattle.book.specs.Tables.{Tables}
 use Rattle.machine.specs.Machine.{Reaches}
-use Rattle.walk.specs.{Scale.Scale, Scale.long, Scale.unreached, Cost.cost, Order.Better}
+use Rattle.walk.specs.{Scale.Scale, Cost.cost, Order.Better}
 
 -- 'For one pair the finder answers unreached, long or else a sentence'
 pub data Outcome : Type 0 where
   Unreached Long : Outcome
   Sentence : List ℕ → Outcome
-
--- the least cost of the words that reach the pair
-abbrev pub mapped : Scale → Outcome → ℕ
-mapped σ Unreached = unreached σ
-mapped σ Long = long σ
-mapped σ (Sentence w) = cost σ w
 
 -- the right answer on a scale for a set P of words: for a pair, those that reach it. `Shortest` has it in the words of forms 1 and 2
 abbrev pub Best : Scale → (ℕ → ℕ) → (List ℕ → Type 0) → Outcome → Type 0

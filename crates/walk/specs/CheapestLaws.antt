@@ -12,7 +12,8 @@ use Rattle.walk.specs.Scale.{Scale, unreached}
 use Rattle.walk.specs.Cost.{cost}
 use Rattle.walk.specs.Order.{Earlier, Better}
 use Rattle.walk.specs.OrderLaws.{before-length, before-earlier, earlier-before}
-use Rattle.walk.specs.Answer.{Outcome, Unreached, Long, Sentence, mapped, Best, Answer}
+use Rattle.walk.specs.Answer.{Outcome, Unreached, Long, Sentence, Best, Answer}
+use Rattle.walk.specs.AnswerLaws.{mapped}
 use Rattle.walk.specs.Shortest.{Shorter}
 use Rattle.walk.specs.Cheapest.{tariffed, charge, Cheaper, Cheapest, chargeOf}
 

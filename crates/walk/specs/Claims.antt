@@ -7,8 +7,9 @@ use lib.ListN.{drop}
 use Rattle.book.specs.Tables.{Tables}
 use Rattle.book.specs.declared.Action.the-variants.{Shift, Reduce}
 use Rattle.walk.specs.Walk.{Walk}
-use Rattle.walk.specs.Scale.{Scale, unreached, cap, shiftCost}
-use Rattle.walk.specs.Cost.{cost, plus, Attained}
+use Rattle.walk.specs.Scale.{Scale, unreached, cap}
+use Rattle.walk.specs.Cost.{cost, Attained}
+use Rattle.walk.specs.Sum.{plus, shiftCost}
 
 -- w crosses the goto of state q under the nonterminal X, where z follows and a is the first terminal of w z: a walk of the length of a
 -- production of X, to a state that reduces it under z

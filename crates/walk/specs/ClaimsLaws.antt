@@ -11,11 +11,12 @@ use Rattle.book.specs.declared.Action.the-variants.{Shift, Reduce}
 use Rattle.machine.specs.Machine.{Reaches}
 use Rattle.walk.specs.Walk.{Walk, here, shifted, crossed, WalksTo, first, Descends, arrives, pops, Gets, GetsTo}
 use Rattle.walk.specs.WalkLaws.{Opens, empties, walk-begins, walk-terminal, descends-terminal, reaches-walk, walk-reaches}
-use Rattle.walk.specs.Scale.{Scale, unreached, cap, shiftCost}
-use Rattle.walk.specs.Cost.{cost, plus, Attained, Exact}
+use Rattle.walk.specs.Scale.{Scale, unreached, cap}
+use Rattle.walk.specs.Cost.{cost, Attained, Exact}
 use Rattle.walk.specs.CostLaws.{plus-mono, plus-far-right, plus-right-within, plus-bounded, plus-zero, zero-plus, plus-comm, plus-assoc, plus-cost-le, attained-map, attained-plus}
 use Rattle.walk.specs.Claims.{Crosses, Claims, Claimed, none, shifting, crossing, Closed, Witnessed, Least, Arrival, OnwardTo, Weighs, Onward, ClaimedDescends, arriving, popping, ClaimedGets, ClaimedGetsTo, Matches, Serves}
 use Rattle.walk.specs.MatchesLaws.{matches-exact}
+use Rattle.walk.specs.Sum.{shiftCost, plus}
 
 -- what a transition, and a reduction, make of the cost of some walk is the cost of some walk, and of some crossing
 module _ (σ : Scale) {B : Tables} where

@@ -9,7 +9,8 @@ use native.Mathlib.Omega.{arith}
 use lib.ListN.{length}
 use borrow.Author.Tests.{lt-ltb, le-ltb, le-leb, lt-leb}
 use Rattle.walk.specs.Scale.{Scale, long, unreached, cap}
-use Rattle.walk.specs.Cost.{cost, plus, cut, Attained, Exact}
+use Rattle.walk.specs.Cost.{cost, Attained, Exact}
+use Rattle.walk.specs.Sum.{plus, cut}
 
 -- the two cases of a capped sum, in a form that omega reads
 data Sum (σ : Scale) (x y r : ℕ) : Type 0 where

@@ -4,9 +4,9 @@ use mathlib.Core.Path.{_≡_}
 use Prim.Native.Nat.{ℕ, suc, _≤_, _<_}
 use Rattle.book.specs.Tables.{Tables}
 use Rattle.book.specs.declared.Action.the-variants.{Shift}
-use Rattle.walk.specs.Scale.{Scale, unreached, shiftCost}
-use Rattle.walk.specs.Cost.{plus, cut}
+use Rattle.walk.specs.Scale.{Scale, unreached}
 use Rattle.walk.specs.Claims.{Claims, Claimed, Least, LeastWhere, Arrival, OnwardTo, Weighs}
+use Rattle.walk.specs.Sum.{shiftCost, plus, cut}
 
 -- L has a cost for each state and next terminal; Longer σ B claim L q z v: from there one transition more leads to (q, z), at the cost v
 pub data Longer (σ : Scale) (B : Tables) (claim : Claims) (L : ℕ → ℕ → ℕ) : ℕ → ℕ → ℕ → Type 0 where

@@ -21,10 +21,6 @@ unreached σ = suc (long σ)
 abbrev pub cap : Scale → ℕ → ℕ
 cap σ n = min n (long σ)
 
--- what a shift adds to a cost
-abbrev pub shiftCost : Scale → ℕ → ℕ
-shiftCost σ t = cap σ (weight σ t)
-
 -- forms 1 and 2: every symbol costs 1, 'a sentence w is up to 1,000 symbols', '1,001 for long, 1,002 for unreached'
 abbrev pub plain : Scale
 plain = record { extra = λ t. 0; limit = 1000 }

@@ -1,7 +1,11 @@
 -- The answer in the words of forms 1 and 2; `best-shortest` shows that `Best plain` is this. Assumes nothing.
-use Rattle.number.specs.Words.{List, length, _⊎_, _≢_, ℕ, _≤_, _<_}
-use Rattle.walk.specs.Order.{Before}
+use Rattle.number.specs.Words.{List, _∷_, length, _⊎_, _≢_, _≡_, ℕ, _≤_, _<_}
 use Rattle.walk.specs.Answer.{Outcome, Unreached, Long, Sentence}
+
+-- 'Of two different sequences of equal length, the one with the smaller terminal number at the first difference is earlier in order'
+pub data Before (rank : ℕ → ℕ) : List ℕ → List ℕ → Type 0 where
+  differs : {a b : ℕ} {v w : List ℕ} → rank a < rank b → length v ≡ length w → Before rank (a ∷ v) (b ∷ w)
+  agrees : {a : ℕ} {v w : List ℕ} → Before rank v w → Before rank (a ∷ v) (a ∷ w)
 
 -- 'of the shortest that reach the pair, the earliest in order': v comes before w if it is shorter, or as long and earlier
 abbrev pub Shorter : (ℕ → ℕ) → List ℕ → List ℕ → Type 0

@@ -11,7 +11,8 @@ use Rattle.walk.specs.Scale.{plain}
 use Rattle.walk.specs.Cost.{cost}
 use Rattle.walk.specs.Order.{Better}
 use Rattle.walk.specs.OrderLaws.{before-length, before-earlier, earlier-before}
-use Rattle.walk.specs.Answer.{Outcome, Unreached, Long, Sentence, mapped, Best, Answer}
+use Rattle.walk.specs.Answer.{Outcome, Unreached, Long, Sentence, Best, Answer}
+use Rattle.walk.specs.AnswerLaws.{mapped}
 use Rattle.walk.specs.Shortest.{Shorter, Shortest, lengthOf}
 
 pub cost-length : (w : List ℕ) → cost plain w ≡ length w

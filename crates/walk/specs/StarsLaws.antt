@@ -26,9 +26,8 @@ use Rattle.machine.specs.MachineLaws.{clash}
 use Rattle.walk.specs.Walk.{Walk, here, shifted, crossed}
 use Rattle.walk.specs.WalkLaws.{reaches-walk}
 use Rattle.walk.specs.Scale.{plain}
-use Rattle.walk.specs.Order.{Before, differs, agrees}
 use Rattle.walk.specs.Answer.{Unreached, Long, Sentence, Answer}
-use Rattle.walk.specs.Shortest.{Shorter, Shortest}
+use Rattle.walk.specs.Shortest.{Shorter, Shortest, Before, differs, agrees}
 use Rattle.walk.specs.ShortestLaws.{answer-shortest}
 use Rattle.walk.specs.Stars.{Line, number, pair, bracket, double, stars, LineHolds, All}
 

@@ -3,7 +3,7 @@ ghost use mathlib.Core.Path.{_≡_};
 ghost use Prim.Native.Nat.{_+_, _≤_, min, max};
 ghost use lib.ListN.{length};
 ghost use Rattle.walk.specs.Scale.{plain};
-ghost use Rattle.walk.specs.Cost.{plus};
+ghost use Rattle.walk.specs.Sum.{plus};
 ghost use Rattle.walk.specs.Fill.{filled};
 
 // The most symbols that a sentence can have.

@@ -5,7 +5,8 @@ use native.Mathlib.Nat.{le-antisymm}
 use mathlib.Core.Path.{_≡_, refl, _∙_}
 use Prim.Native.Nat.{_-_, _≤_}
 use lib.ListN.{length}
-use Rattle.sets.specs.Set.{setOf, below}
+use Rattle.sets.specs.Set.{setOf}
+use Rattle.sets.specs.Bits.{below}
 use Rattle.sets.specs.SetLaws.{set-more}
 use borrow.Author.Needs.{needs}
 use Rattle.sets.proofs.members.Statement.{statement}

@@ -5,7 +5,8 @@ use mathlib.Core.Bool.{cond, _&&_, Bool}
 use Prim.Native.Nat.{ℕ, _-_, _≤_}
 use native.Mathlib.Omega.{arith}
 use native.Mathlib.Nat.{le-antisymm}
-use Rattle.sets.specs.Set.{countOf, member}
+use Rattle.sets.specs.Set.{countOf}
+use Rattle.sets.specs.Bits.{member}
 use Rattle.finder.specs.Reached.{failsIn}
 use Rattle.lines.specs.Parts.{errorIn}
 use Rattle.lines.specs.CountsLaws.{count-step, count-most, one-most}
