@@ -12,7 +12,7 @@ use Rattle.finder.specs.Failing.{isError}
 use Rattle.finder.specs.declared.Found.{Found}
 use Rattle.finder.specs.declared.Found.the-variants.{Unreached, Long, Sentence, Refused}
 use Rattle.lines.specs.Decimal.{decimal}
-use Rattle.lines.specs.Line.{unreachedText, longText, actionLine}
+use Rattle.lines.specs.Line.{ascii, actionLine}
 use Rattle.lines.specs.Put.{Put}
 
 -- the pairs whose action is error
@@ -21,8 +21,8 @@ errorIn cells s z = isError (tablesOf cells .act s z)
 
 -- the words of an answer whose sentence stands at the front of a buffer; none for a refusal, which no pair of a book has
 abbrev pub words : Found → List ℕ → List (List ℕ)
-words Unreached buffer = unreachedText ∷ []
-words Long buffer = longText ∷ []
+words Unreached buffer = ascii "unreached" ∷ []
+words Long buffer = ascii "long" ∷ []
 words (Sentence n) buffer = decimal n ∷ map decimal (take n buffer)
 words (Refused r) buffer = []
 
