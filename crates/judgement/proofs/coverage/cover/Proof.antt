@@ -5,7 +5,7 @@ use Rattle.judgement.proofs.coverage.cover.Statement.{statement}
 use Rattle.judgement.proofs.coverage.cover.Tie as tie
 
 crossings-requires : tie.Need-crossings-requires
-crossings-requires c κs = (c .pre .0, (c .pre .1, c .open-rows .ensures))
+crossings-requires c κs = (c .before .before .before .before .before .before .pre .0, (c .before .before .before .before .before .before .pre .1, c .before .before .open-rows .ensures))
 
 from-start-requires : tie.Need-from-start-requires
 from-start-requires c κs = search needs
@@ -17,7 +17,7 @@ same-length : tie.Need-same-length
 same-length c = search needs
 
 returns : tie.Need-returns
-returns c = (start-covered (c .before .before .before .before .before .before .before .before .before .before .before .pre .0) (c .before .before .from-start .ensures) (c .lowest-lacking .ensures), c .before .before .before .before .before .before .before .crossings .ensures .1)
+returns c = (start-covered (c .before .before .before .before .before .before .before .before .before .before .before .before .before .before .before .pre .0) (c .before .before .from-start .ensures) (c .lowest-lacking .ensures), c .before .before .before .before .before .before .before .before .crossings .ensures .1)
 
 pub cover-spec : {M : Type 1} → statement M
 cover-spec =

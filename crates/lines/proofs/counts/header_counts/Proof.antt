@@ -11,7 +11,7 @@ rows-requires : tie.Need-rows-requires
 rows-requires c κs = search needs
 
 returns : tie.Need-returns
-returns c = record { fails = _; decides = fails-decides (c .before .before .before .before .before .before .pre .0) (c .before .before .from-start .ensures); actions = c .rows .ensures .0; pairs = c .rows .ensures .1 }
+returns c = record { fails = _; decides = fails-decides (c .before .before .before .before .before .before .before .before .before .pre .0) (c .before .before .from-start .ensures); actions = c .rows .ensures .0; pairs = c .rows .ensures .1 }
 
 pub header-counts-spec : {M : Type 1} → statement M
 header-counts-spec = tie.close (tie.spec (λ c κs. search needs) from-start-requires rows-requires returns)

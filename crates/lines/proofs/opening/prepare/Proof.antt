@@ -12,13 +12,13 @@ returns : tie.Need-returns
 returns c = rw (c .enum-told .given .1) (refuses _ (sym (c .before .before .admit .ensures) ∙ c .enum-told .given .1))
 
 open-rows-requires : tie.Need-open-rows-requires
-open-rows-requires c κs = valid-holds _ _ (admits-valid _ _ _ (sym (c .admit .ensures) ∙ c .found .given .1) .book)
+open-rows-requires c κs = valid-holds _ _ (admits-valid _ _ _ (sym (c .before .before .before .before .admit .ensures) ∙ c .before .before .found .given .1) .book)
 
 crossings-requires : tie.Need-crossings-requires
-crossings-requires c κs = let a = admits-valid _ _ _ (sym (c .admit .ensures) ∙ c .found .given .1) in (valid-holds _ _ (a .book), (omega (arith, a .room), c .open-rows .ensures))
+crossings-requires c κs = let a = admits-valid _ _ _ (sym (c .before .before .before .before .before .before .before .admit .ensures) ∙ c .before .before .before .before .before .found .given .1) in (valid-holds _ _ (a .book), (omega (arith, a .room), c .before .before .open-rows .ensures))
 
 returns-2 : tie.Need-returns-2
-returns-2 c = prepares _ (sym (c .before .before .before .before .before .before .before .admit .ensures) ∙ c .before .before .before .before .before .found .given .1) (c .before .before .crossings .ensures .0) (beyond-same (c .before .before .crossings .ensures .1))
+returns-2 c = prepares _ (sym (c .before .before .before .before .before .before .before .before .before .before .admit .ensures) ∙ c .before .before .before .before .before .before .before .before .found .given .1) (c .before .before .crossings .ensures .0) (beyond-same (c .before .before .crossings .ensures .1))
 
 pub prepare-spec : {M : Type 1} → statement M
 prepare-spec =
