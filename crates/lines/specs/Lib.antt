@@ -1,12 +1,8 @@
 pub mod Counts
 pub mod CountsLaws
-pub mod Decimal
-pub mod DecimalLaws
 pub mod Line
 pub mod LineLaws
 pub mod StateLaws
 pub mod Parts
 pub mod Prepare
 pub mod PrepareLaws
-pub mod Put
-pub mod PutLaws

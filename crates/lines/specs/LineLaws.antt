@@ -14,17 +14,15 @@ use Rattle.walk.specs.Scale.{plain}
 use Rattle.walk.specs.ShortestLaws.{cost-length}
 use Rattle.finder.specs.Finder.{Answered, found, sentenceOf}
 use Rattle.finder.specs.declared.Found.{Found}
-use Rattle.lines.specs.Decimal.{decimal}
-use Rattle.lines.specs.DecimalLaws.{decimal-byte}
-use Rattle.lines.specs.Line.{spaced, line, told, pairLine, PairListed}
+use Rattle.text.specs.Decimal.{decimal}
+use Rattle.text.specs.DecimalLaws.{decimal-byte}
+use Rattle.lines.specs.Line.{told, pairLine, PairListed}
+use Rattle.text.specs.Text.{spaced, line}
 use Rattle.lines.specs.Parts.{words, Fitting}
-use Rattle.lines.specs.Put.{Put}
-use Rattle.lines.specs.PutLaws.{put-then}
+use Rattle.text.specs.Put.{Put}
+use Rattle.text.specs.PutLaws.{put-then}
 
 -- pieces one after the other are a line
-pub two-words : (a b c d : List ℕ) → (((a ++ 32 ∷ b) ++ 32 ∷ c) ++ 32 ∷ d) ++ 10 ∷ [] ≡ line a (b ∷ c ∷ d ∷ [])
-two-words a b c d = simp append-assoc
-
 pub pair-words : (a b : List ℕ) (ws : List (List ℕ)) → (a ++ 32 ∷ b) ++ (spaced ws ++ 10 ∷ []) ≡ line a (b ∷ ws)
 pair-words a b ws = simp append-assoc
 
@@ -60,30 +58,3 @@ line-one {B} {s} {z} {at} {buffer = buffer} {lent = lent} x y =
       x .put .stored ∙ ap (λ (o : Outcome). sets lent at (pairLine s z o)) same ∙ sym (y .put .stored),
       x .put .after ∙ ap (λ (o : Outcome). at + length (pairLine s z o)) same ∙ sym (y .put .after),
     )
-
--- ---- symbols one after the other
-spaced-more : (ws : List (List ℕ)) (w : List ℕ) → spaced (ws ++ w ∷ []) ≡ spaced ws ++ 32 ∷ w
-spaced-more [] w = rw append-nil
-spaced-more (v ∷ ws) w = rw (spaced-more ws w, append-assoc)
-
-map-more : (w : List ℕ) (a : ℕ) → map decimal (w ++ a ∷ []) ≡ map decimal w ++ decimal a ∷ []
-map-more [] a = refl
-map-more (b ∷ w) a = rw (map-more w a)
-
--- i symbols of the sentence were put, each with at most three digits
-pub record Spelt (w lent : List ℕ) (at : ℕ) (now : List ℕ) (next i : ℕ) : Type 0 where
-  pub size : length now ≡ length lent
-  pub put : Put (spaced (map decimal (take i w))) lent at now next
-  pub near : next ≤ at + 4 * i
-
-module _ {w lent : List ℕ} {at : ℕ} where
-  pub spelt-none : Spelt w lent at lent at 0
-  spelt-none = record { size = refl; put = record { stored = refl; after = omega arith }; near = omega arith }
-
-  pub spelt-more : {now left : List ℕ} {next end i : ℕ} → Spelt w lent at now next i → i < length w → getD w i 0 < 256 → length left ≡ length now
-      → Put (32 ∷ decimal (getD w i 0)) now next left end → Spelt w lent at left end (i + 1)
-  spelt-more {i} p h small e q = record {
-    size = e ∙ p .size;
-    put = rw (add-one, take-suc w i 0, map-more, spaced-more) (put-then (p .put) q);
-    near = omega (arith, p .near, q .after, decimal-byte (getD w i 0) small);
-  }

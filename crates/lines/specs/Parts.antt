@@ -11,9 +11,9 @@ use Rattle.walk.specs.Scale.{plain}
 use Rattle.finder.specs.Failing.{isError}
 use Rattle.finder.specs.declared.Found.{Found}
 use Rattle.finder.specs.declared.Found.the-variants.{Unreached, Long, Sentence, Refused}
-use Rattle.lines.specs.Decimal.{decimal}
+use Rattle.text.specs.Decimal.{decimal}
 use Rattle.lines.specs.Line.{ascii, actionLine}
-use Rattle.lines.specs.Put.{Put}
+use Rattle.text.specs.Put.{Put}
 
 -- the pairs whose action is error
 abbrev pub errorIn : List ℕ → ℕ → ℕ → Bool

@@ -19,8 +19,8 @@ use Rattle.finder.specs.Failing.{isError}
 use Rattle.finder.specs.FailingLaws.{is-error}
 use Rattle.lines.specs.Line.{pairLine, PairListed, actionLine, stateLines, StateListed}
 use Rattle.lines.specs.Parts.{ActionListed}
-use Rattle.lines.specs.Put.{Put}
-use Rattle.lines.specs.PutLaws.{put-then}
+use Rattle.text.specs.Put.{Put}
+use Rattle.text.specs.PutLaws.{put-then}
 
 -- the line of one action
 module _ {B : Tables} {s z : ℕ} {lent : List ℕ} {at : ℕ} where

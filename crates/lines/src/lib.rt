@@ -2,7 +2,6 @@
 mod counts;
 mod line;
 mod opening;
-mod put;
 mod state;
 
 pub use counts::header_counts;

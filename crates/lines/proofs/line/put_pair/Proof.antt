@@ -1,7 +1,7 @@
 -- `lines::line::put_pair` meets its contract: the right answer, piece by piece. Assumes nothing.
 use native.Mathlib.Omega.{arith}
-use Rattle.lines.specs.DecimalLaws.{decimal-most}
-use Rattle.lines.specs.PutLaws.{put-then}
+use Rattle.text.specs.DecimalLaws.{decimal-most}
+use Rattle.text.specs.PutLaws.{put-then}
 use Rattle.lines.specs.LineLaws.{answered-fits, answered-line}
 use borrow.Author.Needs.{needs}
 use Rattle.lines.proofs.line.put_pair.Statement.{statement}

@@ -1,7 +1,7 @@
 -- `lines::line::put_sentence` meets its contract: piece by piece. Assumes nothing.
 use native.Mathlib.Omega.{arith}
-use Rattle.lines.specs.DecimalLaws.{decimal-most}
-use Rattle.lines.specs.PutLaws.{put-then}
+use Rattle.text.specs.DecimalLaws.{decimal-most}
+use Rattle.text.specs.PutLaws.{put-then}
 use borrow.Author.Needs.{needs}
 use Rattle.lines.proofs.line.put_sentence.Statement.{statement}
 use Rattle.lines.proofs.line.put_sentence.Tie as tie

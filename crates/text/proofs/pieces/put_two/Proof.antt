@@ -1,11 +1,11 @@
--- `lines::line::put_two` meets its contract: piece by piece. Assumes nothing.
+-- `text::pieces::put_two` meets its contract: piece by piece. Assumes nothing.
 use native.Mathlib.Omega.{arith}
-use Rattle.lines.specs.DecimalLaws.{decimal-most}
-use Rattle.lines.specs.PutLaws.{put-then}
-use Rattle.lines.specs.LineLaws.{two-words}
+use Rattle.text.specs.DecimalLaws.{decimal-most}
+use Rattle.text.specs.PutLaws.{put-then}
+use Rattle.text.specs.TextLaws.{two-words}
 use borrow.Author.Needs.{needs}
-use Rattle.lines.proofs.line.put_two.Statement.{statement}
-use Rattle.lines.proofs.line.put_two.Tie as tie
+use Rattle.text.proofs.pieces.put_two.Statement.{statement}
+use Rattle.text.proofs.pieces.put_two.Tie as tie
 
 put-requires : tie.Need-put-requires
 put-requires c κs = omega (arith, c .before .before .before .before .pre)

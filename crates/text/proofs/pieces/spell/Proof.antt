@@ -1,10 +1,10 @@
--- `lines::put::spell` meets its contract: digit by digit, from the last. Assumes nothing.
+-- `text::pieces::spell` meets its contract: digit by digit, from the last. Assumes nothing.
 use Prim.Native.Nat.{_≤_}
 use native.Mathlib.Omega.{arith}
-use Rattle.lines.specs.DecimalLaws.{Spelling, spelling-none, spelling-more, spelling-last, spelling-end}
+use Rattle.text.specs.DecimalLaws.{Spelling, spelling-none, spelling-more, spelling-last, spelling-end}
 use borrow.Author.Needs.{needs}
-use Rattle.lines.proofs.put.spell.Statement.{statement}
-use Rattle.lines.proofs.put.spell.Tie as tie
+use Rattle.text.proofs.pieces.spell.Statement.{statement}
+use Rattle.text.proofs.pieces.spell.Tie as tie
 
 abbrev Inv-loop : tie.InvT-loop
 Inv-loop n text₀ i₀ rest₀ text i rest = (i ≤ 20) × Spelling n text i rest

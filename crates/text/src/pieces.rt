@@ -1,11 +1,11 @@
 // Words and numbers put at a place of a lent buffer; each answers the place after.
-ghost use mathlib.Core.List.{_∷_, map};
+ghost use mathlib.Core.List.{[], _∷_, map};
 ghost use mathlib.Core.Path.{_≡_};
 ghost use Prim.Native.Nat.{_+_, _*_, _≤_};
 ghost use lib.ListN.{length, drop, take};
-ghost use Rattle.lines.specs.Decimal.{decimal};
-ghost use Rattle.lines.specs.Line.{spaced};
-ghost use Rattle.lines.specs.Put.{Put};
+ghost use Rattle.text.specs.Decimal.{decimal};
+ghost use Rattle.text.specs.Text.{spaced, line};
+ghost use Rattle.text.specs.Put.{Put};
 
 pub fn put(word: &[u8], out: &mut [u8], at: usize) -> usize
     requires { ⌜ at + length (now word) ≤ length (now out) ⌝ }
@@ -84,4 +84,17 @@ pub fn put_symbols(sentence: &[u8], n: usize, out: &mut [u8], at: usize) -> usiz
         i += 1;
     }
     next
+}
+
+// Two words, each with a number after it, and the line's end.
+pub fn put_two(label: &[u8], n: usize, second: &[u8], m: usize, out: &mut [u8], at: usize) -> usize
+    requires { ⌜ (length (now label) ≤ 8) × (length (now second) ≤ 8) × (at + 64 ≤ length (now out)) ⌝ }
+    ensures { λ r. ⌜ Put (line (now (label .entry)) (decimal n ∷ now (second .entry) ∷ decimal m ∷ [])) (now (out .entry)) at (now (out .exit)) r ⌝ }
+    ensures { λ r. ⌜ r ≤ at + 64 ⌝ }
+{
+    let labelled = put(label, out, at);
+    let counted = put_next(n, out, labelled);
+    let named = put_next_word(second, out, counted);
+    let last = put_next(m, out, named);
+    put(b"\n", out, last)
 }

@@ -1,8 +1,8 @@
--- `lines::put::put_number` meets its contract: the digits, put as a word. Assumes nothing.
-use Rattle.lines.specs.DecimalLaws.{spelt-part}
+-- `text::pieces::put_number` meets its contract: the digits, put as a word. Assumes nothing.
+use Rattle.text.specs.DecimalLaws.{spelt-part}
 use borrow.Author.Needs.{needs}
-use Rattle.lines.proofs.put.put_number.Statement.{statement}
-use Rattle.lines.proofs.put.put_number.Tie as tie
+use Rattle.text.proofs.pieces.put_number.Statement.{statement}
+use Rattle.text.proofs.pieces.put_number.Tie as tie
 
 spell-requires : tie.Need-spell-requires
 spell-requires c κs = search needs

@@ -1,10 +1,10 @@
--- `lines::put::put_next` meets its contract: a byte, and a number after it. Assumes nothing.
+-- `text::pieces::put_next` meets its contract: a byte, and a number after it. Assumes nothing.
 use mathlib.Core.Path.{_∙_}
 use lib.ListN.{length-set}
-use Rattle.lines.specs.PutLaws.{put-after}
+use Rattle.text.specs.PutLaws.{put-after}
 use borrow.Author.Needs.{needs}
-use Rattle.lines.proofs.put.put_next.Statement.{statement}
-use Rattle.lines.proofs.put.put_next.Tie as tie
+use Rattle.text.proofs.pieces.put_next.Statement.{statement}
+use Rattle.text.proofs.pieces.put_next.Tie as tie
 
 slice-write-out : tie.Need-slice-write-out
 slice-write-out c = search needs

@@ -8,7 +8,7 @@ use native.Mathlib.Omega.{arith}
 use borrow.Author.Tests.{lt-ltb, le-ltb}
 use lib.ListN.{length, take, drop, set, length-append, length-drop, length-set}
 use lib.Seq.{take-all, drop-length, drop-cons, drop-set-lt, getD-set-same}
-use Rattle.lines.specs.Decimal.{digits, decimal}
+use Rattle.text.specs.Decimal.{digits, decimal}
 
 pub digits-none : (n : ℕ) → digits zero n ≡ []
 unfolding digits

@@ -1,13 +1,13 @@
--- `lines::put::put_symbols` meets its contract: one symbol after the other. Assumes nothing.
+-- `text::pieces::put_symbols` meets its contract: one symbol after the other. Assumes nothing.
 use Prim.Native.Nat.{_-_, _≤_, _<_}
 use native.Mathlib.Nat.{le-antisymm}
 use native.Mathlib.Omega.{arith}
-use Rattle.lines.specs.DecimalLaws.{decimal-byte}
-use Rattle.lines.specs.LineLaws.{Spelt, spelt-none, spelt-more}
+use Rattle.text.specs.DecimalLaws.{decimal-byte}
+use Rattle.text.specs.TextLaws.{Spelt, spelt-none, spelt-more}
 use lib.ListN.{getD}
 use borrow.Author.Needs.{needs}
-use Rattle.lines.proofs.put.put_symbols.Statement.{statement}
-use Rattle.lines.proofs.put.put_symbols.Tie as tie
+use Rattle.text.proofs.pieces.put_symbols.Statement.{statement}
+use Rattle.text.proofs.pieces.put_symbols.Tie as tie
 
 abbrev Inv-loop : tie.InvT-loop
 Inv-loop sentence n out₀ at next₀ i₀ out next i = (i ≤ n) × Spelt sentence out₀ at out next i

@@ -1,12 +1,12 @@
--- `lines::put::put` meets its contract: byte by byte. Assumes nothing.
+-- `text::pieces::put` meets its contract: byte by byte. Assumes nothing.
 use mathlib.Core.Path.{refl}
 use Prim.Native.Nat.{_-_, _≤_}
 use native.Mathlib.Nat.{le-antisymm}
 use native.Mathlib.Omega.{arith}
-use Rattle.lines.specs.PutLaws.{WordCopied, word-copied-none, word-copied-more, copied-done}
+use Rattle.text.specs.PutLaws.{WordCopied, word-copied-none, word-copied-more, copied-done}
 use borrow.Author.Needs.{needs}
-use Rattle.lines.proofs.put.put.Statement.{statement}
-use Rattle.lines.proofs.put.put.Tie as tie
+use Rattle.text.proofs.pieces.put.Statement.{statement}
+use Rattle.text.proofs.pieces.put.Tie as tie
 
 abbrev Inv-loop : tie.InvT-loop
 Inv-loop word out₀ at n i₀ out i = (i ≤ n) × WordCopied word out₀ at out i

@@ -7,7 +7,7 @@ use native.Mathlib.Numerals.{add-one}
 use native.Mathlib.Omega.{arith}
 use lib.ListN.{length, getD, set, take, length-append, length-set}
 use lib.Seq.{sets, take-suc, length-take-le, take-length}
-use Rattle.lines.specs.Put.{Put}
+use Rattle.text.specs.Put.{Put}
 
 sets-append : (lent : List ℕ) (at : ℕ) (xs ys : List ℕ) → sets (sets lent at xs) (at + length xs) ys ≡ sets lent at (xs ++ ys)
 sets-append lent at [] ys = rw add-zero
