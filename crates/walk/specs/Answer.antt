@@ -1,4 +1,4 @@
--- What the finder answers for one pair. Assumes nothing.
+-- What the finder answers for one pair. `Shortest.antt` has it by lengths, and a law says that this is the same. Assumes nothing.
 use Rattle.number.specs.Words.{List, _≢_, ℕ, _≤_, _<_}
 use Rattle.book.specs.Tables.{Tables}
 use Rattle.machine.specs.Machine.{Reaches}
@@ -9,7 +9,8 @@ pub data Outcome : Type 0 where
   Unreached Long : Outcome
   Sentence : List ℕ → Outcome
 
--- the right answer on a scale for a set P of words: for a pair, those that reach it. `Shortest` has it in the words of forms 1 and 2
+-- the right answer on a scale for a set P of words, for a pair those that reach it: 'unreached if no sequence, however long, reaches it, and
+-- long if some sequence reaches it but none of at most 1,000 symbols'; else 'of the shortest that reach the pair, the earliest in order'
 abbrev pub Best : Scale → (ℕ → ℕ) → (List ℕ → Type 0) → Outcome → Type 0
 Best σ rank P Unreached = (w : List ℕ) → ¬ P w
 Best σ rank P Long = ((w : List ℕ) × P w) × ((w : List ℕ) → P w → σ .limit < cost σ w)

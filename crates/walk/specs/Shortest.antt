@@ -1,4 +1,4 @@
--- The answer in the words of forms 1 and 2; `best-shortest` shows that `Best plain` is this. Assumes nothing.
+-- The answer by lengths, in the words of forms 1 and 2; `best-shortest` shows that `Best plain` is this. Assumes nothing.
 use Rattle.number.specs.Words.{List, _∷_, length, _⊎_, _≢_, _≡_, ℕ, _≤_, _<_}
 use Rattle.walk.specs.Answer.{Outcome, Unreached, Long, Sentence}
 
