@@ -3,6 +3,8 @@ pub mod ActionLaws
 pub mod Book
 pub mod BookLaws
 pub mod BytesLaws
+pub mod Call
+pub mod CallLaws
 pub mod IndexLaws
 pub mod Range
 pub mod RangeLaws

@@ -1,6 +1,7 @@
 // The table book: read out of bytes, checked, and written.
 mod actions;
 mod bytes;
+mod call;
 mod cells;
 mod range;
 mod tables;

@@ -1,3 +1,4 @@
+pub mod Admitted
 pub mod Finder
 pub mod FinderLaws
 pub mod Rows
@@ -17,7 +18,6 @@ pub mod Choosing
 pub mod ChoosingLaws
 pub mod Pair
 pub mod PairLaws
-pub mod FindLaws
 pub mod AgreementLaws
 pub mod Failing
 pub mod FailingLaws

@@ -84,14 +84,13 @@ answer-long e g h = (
 
 pub answered-unreached : {B : Tables} {s z n : ℕ} {buffer : List ℕ} → Exact plain (λ w. Reaches B w z s) n → unreached plain ≤ n → Answered B s z buffer Unreached buffer
 answered-unreached {n} e h = record {
-  outcome = Never;
+  thing = Never;
   right = let same : n ≡ unreached plain = ⊎-elim (λ u. u) (λ (w, r, u). omega (arith, u)) (e .attained) in exact-unreached plain (λ a. a) _ _ _ (rw same at e);
-  told = refl;
-  front = refl;
+  same = refl;
 }
 
 pub answered-long : {B : Tables} {s z n : ℕ} {buffer : List ℕ} → Exact plain (λ w. Reaches B w z s) n → long plain ≤ n → n < unreached plain → Answered B s z buffer Far′ buffer
-answered-long e g h = record { outcome = Long; right = answer-long e g h; told = refl; front = refl }
+answered-long e g h = record { thing = Long; right = answer-long e g h; same = refl }
 
 pub answered-sentence : {B : Tables} {s z n : ℕ} {buffer left : List ℕ} → Chose plain (λ a. a) (λ w. Reaches B w z s) n buffer left → Answered B s z buffer (Sentence n) left
-answered-sentence c = record { outcome = Word (c .word); right = c .answer; told = rw (sym (cost-length (c .word)) ∙ c .paid); front = c .front }
+answered-sentence c = record { thing = Word (c .word); right = c .answer; same = rw (c .front, sym (c .paid) ∙ cost-length (c .word)) }

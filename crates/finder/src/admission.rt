@@ -1,14 +1,14 @@
-// What is checked before a search: the book, the pair, and the room that is lent.
+// What is checked before a search, after the book: the pair, and the room that is lent.
 ghost use mathlib.Core.Path.{_≡_};
 ghost use Prim.Native.Nat.{_≤_};
 ghost use lib.ListN.{length, replicate};
 ghost use Rattle.number.specs.Lent.{over};
-ghost use Rattle.book.specs.Book.{ofCells, checked};
+ghost use Rattle.book.specs.Call.{steps};
+ghost use Rattle.book.specs.declared.Checked.the-variants.{Valid};
 ghost use Rattle.book.specs.RangeLaws.{Small};
-ghost use Rattle.finder.specs.Finder.{workCells, refused, admitsPair, admitsMap, admitsSets};
+ghost use Rattle.finder.specs.Finder.{workCells, pairRefusals, mapRefusals, setsRefusals};
 use book::Checked;
 use book::Sizes;
-use number::Refusal;
 use walk::LIMIT;
 use walk::fill;
 
@@ -20,67 +20,34 @@ pub fn work_cells(d: Sizes) -> usize
     d.t * d.t * d.s * (d.n + 8)
 }
 
-fn refuse(number: u8) -> Checked
-    ensures { λ r. ⌜ r ≡ refused number ⌝ }
+pub fn admit_pair(d: Sizes, s: u16, z: u16, work: usize, buffer: usize) -> Checked
+    requires { ⌜ Small d ⌝ }
+    ensures { λ r. ⌜ r ≡ steps (Valid d) (pairRefusals s z work buffer d) ⌝ }
 {
-    Checked::Refused(Refusal { number, place: 0 })
+    Checked::Valid(d)
+        .unless(s as usize >= d.s, 10, 0)
+        .unless(z as usize >= d.t, 11, 0)
+        .unless(work < work_cells(d), 13, 0)
+        .unless(buffer < LIMIT as usize, 12, 0)
 }
 
-pub fn admit_pair(cells: &[u16], s: u16, z: u16, work: usize, buffer: usize) -> Checked
-    ensures { λ r. ⌜ r ≡ admitsPair s z work buffer (checked (ofCells (now (cells .entry)))) ⌝ }
+pub fn admit_map(d: Sizes, work: usize, lent: usize) -> Checked
+    requires { ⌜ Small d ⌝ }
+    ensures { λ r. ⌜ r ≡ steps (Valid d) (mapRefusals work lent d) ⌝ }
 {
-    let found = book::check(cells);
-    let Checked::Valid(d) = found else {
-        return found;
-    };
-    if (s as usize) >= d.s {
-        return refuse(10);
-    }
-    if (z as usize) >= d.t {
-        return refuse(11);
-    }
-    if work < work_cells(d) {
-        return refuse(13);
-    }
-    if buffer < LIMIT as usize {
-        return refuse(12);
-    }
-    found
+    Checked::Valid(d)
+        .unless(work < work_cells(d), 13, 0)
+        .unless(lent < d.s * d.t, 12, 0)
 }
 
-pub fn admit_map(cells: &[u16], work: usize, lent: usize) -> Checked
-    ensures { λ r. ⌜ r ≡ admitsMap work lent (checked (ofCells (now (cells .entry)))) ⌝ }
+pub fn admit_sets(d: Sizes, work: usize, masks: usize, sizes: usize) -> Checked
+    requires { ⌜ Small d ⌝ }
+    ensures { λ r. ⌜ r ≡ steps (Valid d) (setsRefusals work masks sizes d) ⌝ }
 {
-    let found = book::check(cells);
-    let Checked::Valid(d) = found else {
-        return found;
-    };
-    if work < work_cells(d) {
-        return refuse(13);
-    }
-    if lent < d.s * d.t {
-        return refuse(12);
-    }
-    found
-}
-
-pub fn admit_sets(cells: &[u16], work: usize, masks: usize, sizes: usize) -> Checked
-    ensures { λ r. ⌜ r ≡ admitsSets work masks sizes (checked (ofCells (now (cells .entry)))) ⌝ }
-{
-    let found = book::check(cells);
-    let Checked::Valid(d) = found else {
-        return found;
-    };
-    if work < work_cells(d) {
-        return refuse(13);
-    }
-    if masks < d.s {
-        return refuse(12);
-    }
-    if sizes < d.s {
-        return refuse(12);
-    }
-    found
+    Checked::Valid(d)
+        .unless(work < work_cells(d), 13, 0)
+        .unless(masks < d.s, 12, 0)
+        .unless(sizes < d.s, 12, 0)
 }
 
 // The first n work cells become zero.

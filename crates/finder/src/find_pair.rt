@@ -32,12 +32,23 @@ fn solve(cells: &[u16], d: Sizes, s: usize, z: usize, work: &mut [u16], buffer: 
     found
 }
 
+// The answer for a book that was checked.
+fn find_in(cells: &[u16], d: Sizes, s: u16, z: u16, work: &mut [u16], buffer: &mut [u8]) -> Found
+    requires { ⌜ Holds d (now cells) ⌝ }
+    ensures { λ r. ⌜ Finds (now (cells .entry)) s z (now (work .entry)) (now (buffer .entry)) (r, (now (work .exit), now (buffer .exit))) ⌝ }
+{
+    match admit_pair(d, s, z, work.len(), buffer.len()) {
+        Checked::Refused(r) => Found::Refused(r),
+        Checked::Valid(_) => solve(cells, d, s as usize, z as usize, work, buffer),
+    }
+}
+
 // A sentence is written at the front of the buffer.
 pub fn find(cells: &[u16], s: u16, z: u16, work: &mut [u16], buffer: &mut [u8]) -> Found
-    ensures { λ r. ⌜ Finds (now (cells .entry)) s z (now (work .entry)) (now (buffer .entry)) r (now (work .exit)) (now (buffer .exit)) ⌝ }
+    ensures { λ r. ⌜ Finds (now (cells .entry)) s z (now (work .entry)) (now (buffer .entry)) (r, (now (work .exit), now (buffer .exit))) ⌝ }
 {
-    match admit_pair(cells, s, z, work.len(), buffer.len()) {
+    match book::check(cells) {
         Checked::Refused(r) => Found::Refused(r),
-        Checked::Valid(d) => solve(cells, d, s as usize, z as usize, work, buffer),
+        Checked::Valid(d) => find_in(cells, d, s, z, work, buffer),
     }
 }

@@ -4,7 +4,8 @@ ghost use Prim.Native.Nat.{_≤_, _<_};
 ghost use lib.ListN.{length};
 ghost use Rattle.number.specs.Lent.{over};
 ghost use Rattle.book.specs.TablesLaws.{Holds};
-ghost use Rattle.finder.specs.Finder.{workCells, cleared, Gathered, Gathers};
+ghost use Rattle.finder.specs.Admitted.{Gathered};
+ghost use Rattle.finder.specs.Finder.{workCells, cleared, Gathers};
 ghost use Rattle.finder.specs.Reached.{maskIn, sizeIn, firsts};
 use crate::admission::admit_sets;
 use crate::start_distances::distances_in;
@@ -42,10 +43,16 @@ fn write_sets(dist: &[u16], s: usize, t: usize, masks: &mut [u32], sizes: &mut [
 }
 
 // The sets of an accepted book, in room that is enough.
-fn gather(cells: &[u16], d: Sizes, work: &mut [u16], masks: &mut [u32], sizes: &mut [u32])
+fn gather(
+    cells: &[u16],
+    d: Sizes,
+    work: &mut [u16],
+    masks: &mut [u32],
+    sizes: &mut [u32],
+) -> Written
     requires { ⌜ Holds d (now cells) ⌝ }
     requires { ⌜ (workCells d ≤ length (now work)) × (d .s ≤ length (now masks)) × (d .s ≤ length (now sizes)) ⌝ }
-    ensures { λ _. ⌜ Gathered (now (cells .entry)) d (now (masks .entry)) (now (sizes .entry)) (now (masks .exit)) (now (sizes .exit)) ⌝ }
+    ensures { λ r. ⌜ Gathered (now (cells .entry)) d (now (masks .entry)) (now (sizes .entry)) r (now (masks .exit), now (sizes .exit)) ⌝ }
     ensures { λ _. ⌜ now (work .exit) ≡ cleared d (now (work .entry)) ⌝ }
 {
     let mut dist = [UNREACHED; 4096];
@@ -53,18 +60,32 @@ fn gather(cells: &[u16], d: Sizes, work: &mut [u16], masks: &mut [u32], sizes: &
     let states = d.s;
     let t = d.t;
     write_sets(&dist, states, t, masks, sizes);
+    Written::Count(states)
+}
+
+// The sets of a book that was checked.
+fn sets_of(
+    cells: &[u16],
+    d: Sizes,
+    work: &mut [u16],
+    masks: &mut [u32],
+    sizes: &mut [u32],
+) -> Written
+    requires { ⌜ Holds d (now cells) ⌝ }
+    ensures { λ r. ⌜ Gathers (now (cells .entry)) (now (work .entry)) (now (masks .entry)) (now (sizes .entry)) (r, (now (work .exit), (now (masks .exit), now (sizes .exit)))) ⌝ }
+{
+    match admit_sets(d, work.len(), masks.len(), sizes.len()) {
+        Checked::Refused(r) => Written::Refused(r),
+        Checked::Valid(_) => gather(cells, d, work, masks, sizes),
+    }
 }
 
 // Writes S sets, and beside each how many lookaheads are in it; says how many sets.
 pub fn sets(cells: &[u16], work: &mut [u16], masks: &mut [u32], sizes: &mut [u32]) -> Written
-    ensures { λ r. ⌜ Gathers (now (cells .entry)) (now (work .entry)) (now (masks .entry)) (now (sizes .entry)) r (now (work .exit)) (now (masks .exit)) (now (sizes .exit)) ⌝ }
+    ensures { λ r. ⌜ Gathers (now (cells .entry)) (now (work .entry)) (now (masks .entry)) (now (sizes .entry)) (r, (now (work .exit), (now (masks .exit), now (sizes .exit)))) ⌝ }
 {
-    match admit_sets(cells, work.len(), masks.len(), sizes.len()) {
+    match book::check(cells) {
         Checked::Refused(r) => Written::Refused(r),
-        Checked::Valid(d) => {
-            gather(cells, d, work, masks, sizes);
-            let states = d.s;
-            Written::Count(states)
-        }
+        Checked::Valid(d) => sets_of(cells, d, work, masks, sizes),
     }
 }

@@ -7,18 +7,20 @@ use native.Mathlib.Decide.{decLe, decLt}
 use native.Mathlib.Nat.{not-suc-le-zero}
 use native.Mathlib.Numerals.{add-one}
 use native.Mathlib.Omega.{arith}
-use borrow.Author.Tests.{lt-ltb, le-ltb, le-leb, lt-leb}
+use borrow.Author.Tests.{lt-ltb, le-ltb, le-leb, lt-leb, ltb-false, leb-false}
 use lib.Dec.{ltb, leb}
 use lib.ListN.{length, getD, drop, drop-of-length-le}
 use lib.Seq.{drop-cons}
 use Rattle.number.specs.declared.Refusal.{Refusal}
 use Rattle.book.specs.Book.{ofCells, checked}
+use Rattle.book.specs.Call.{admits}
+use Rattle.book.specs.CallLaws.{admitted}
 use Rattle.book.specs.Tables.{tablesOf}
 use Rattle.book.specs.declared.Checked.{Checked}
 use Rattle.book.specs.declared.Checked.the-variants.{Valid, Refused as CheckedRefused}
 use Rattle.book.specs.declared.Sizes.{Sizes}
 use Rattle.machine.specs.MachineLaws.{clash}
-use Rattle.machine.specs.Run.{runs, soundPrefix, runAdmits, running}
+use Rattle.machine.specs.Run.{runs, soundPrefix, runRefusals, running}
 use Rattle.machine.specs.Stack.{RanTo}
 use Rattle.machine.specs.declared.Ending.{Ending}
 use Rattle.machine.specs.declared.Ran.the-variants.{Ended, Refused}
@@ -59,22 +61,7 @@ sound-most t (a ∷ w) = go (leb 1 a && ltb a t) (sound-most t w)
     go true h = omega arith
     go false h = omega arith
 
--- ---- what is admitted: past a test that refuses where a is below b, or where it is at least b
-module _ (a b : ℕ) (r : Refusal) (rest : Checked) {d : Sizes} where
-  pub past-short : cond (ltb a b) (CheckedRefused r) rest ≡ Valid d → (b ≤ a) × (rest ≡ Valid d)
-  past-short e = go (decLe b a)
-    where
-      go : Dec (b ≤ a) → (b ≤ a) × (rest ≡ Valid d)
-      go (yes h) = (h, rw (le-ltb a b h) at e)
-      go (no h) = let f = rw (lt-ltb a b (omega arith)) at e in absurd (clash cc)
-
-  pub past-beyond : cond (leb b a) (CheckedRefused r) rest ≡ Valid d → (a < b) × (rest ≡ Valid d)
-  past-beyond e = go (decLt a b)
-    where
-      go : Dec (a < b) → (a < b) × (rest ≡ Valid d)
-      go (yes h) = (h, rw (lt-leb b a h) at e)
-      go (no h) = let f = rw (le-leb b a (omega arith)) at e in absurd (clash cc)
-
+-- ---- what is admitted
 pub record RunAdmitted (w : List ℕ) (z room : ℕ) (found : Checked) (d : Sizes) : Type 0 where
   pub book : found ≡ Valid d
   pub few : length w ≤ 1000
@@ -82,24 +69,25 @@ pub record RunAdmitted (w : List ℕ) (z room : ℕ) (found : Checked) (d : Size
   pub lookahead : z < d .t
   pub enough : 1024 ≤ room
 
-pub admitted-valid : (w : List ℕ) (z room : ℕ) (found : Checked) (d : Sizes) → runAdmits w z room found ≡ Valid d → RunAdmitted w z room found d
-unfolding runAdmits
-admitted-valid w z room (CheckedRefused r) d e = absurd (clash cc)
-admitted-valid w z room (Valid x) d e =
-    let (few, e₁) = past-short 1000 (length w) _ _ e in
-    let (terminals, e₂) = past-short (soundPrefix (x .t) w) (length w) _ _ e₁ in
-    let (lookahead, e₃) = past-beyond z (x .t) _ _ e₂ in
-    let (enough, e₄) = past-short room 1024 _ _ e₃ in
-    let same : x ≡ d = cc in
-    rw (← same) (record { book = refl; few = few; terminals = omega (arith, sound-most (x .t) w); lookahead = lookahead; enough = enough })
+pub admitted-valid : (w : List ℕ) (z room : ℕ) (found : Checked) (d : Sizes) → admits found (runRefusals w z room) ≡ Valid d → RunAdmitted w z room found d
+unfolding runRefusals
+admitted-valid w z room found d e =
+    let (book, (few, (terminals, (lookahead, (enough, end))))) = admitted found (runRefusals w z room) d e in
+    record {
+      book = book;
+      few = ltb-false _ _ few;
+      terminals = omega (arith, sound-most (d .t) w, ltb-false (soundPrefix (d .t) w) (length w) terminals);
+      lookahead = leb-false _ _ lookahead;
+      enough = ltb-false _ _ enough;
+    }
 
 -- ---- the call
 module _ (cells w : List ℕ) (z : ℕ) (lent : List ℕ) where
-  pub run-refused : (r : Refusal) → runAdmits w z (length lent) (checked (ofCells cells)) ≡ CheckedRefused r → (Refused r, lent) ≡ running cells w z lent
+  pub run-refused : (r : Refusal) → admits (checked (ofCells cells)) (runRefusals w z (length lent)) ≡ CheckedRefused r → (Refused r, lent) ≡ running cells w z lent
   unfolding running
   run-refused r e = rw (running, e)
 
-  pub run-admitted : (d : Sizes) {r : Ending} {out : List ℕ} → runAdmits w z (length lent) (checked (ofCells cells)) ≡ Valid d
+  pub run-admitted : (d : Sizes) {r : Ending} {out : List ℕ} → admits (checked (ofCells cells)) (runRefusals w z (length lent)) ≡ Valid d
       → RanTo (runs (tablesOf cells) z w 0 (0 ∷ [])) lent r out → (Ended r, out) ≡ running cells w z lent
   unfolding running
   run-admitted d e (f, g) = rw (running, e, f, g)

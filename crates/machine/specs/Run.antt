@@ -1,6 +1,6 @@
 -- A run: the machine under the limits, how it ends, and what the call answers and leaves. Assumes nothing.
-use Rattle.number.specs.Words.{true, false, cond, _&&_, List, [], _∷_, _++_, reverse, length, getD, drop, replicate, ℕ, zero, suc, _-_, ltb, leb}
-use Rattle.book.specs.{Book.ofCells, Book.checked, Tables.Tables, Tables.tablesOf, declared.Checked.Checked}
+use Rattle.number.specs.Words.{Bool, true, false, cond, _&&_, List, [], _∷_, _++_, reverse, length, getD, drop, replicate, ℕ, zero, suc, _-_, ltb, leb}
+use Rattle.book.specs.{Book.ofCells, Book.checked, Call.admits, Tables.Tables, Tables.tablesOf, declared.Checked.Checked, declared.Sizes.Sizes}
 use Rattle.machine.specs.Machine.{Move, accepts, fails, breaks, shifts, reduces, next}
 use Rattle.machine.specs.declared.{Stop.Stop, Ending.Ending, Ran.Ran}
 
@@ -58,14 +58,15 @@ abbrev pub soundPrefix : ℕ → List ℕ → ℕ
 soundPrefix T [] = 0
 soundPrefix T (a ∷ w) = cond (leb 1 a && ltb a T) (suc (soundPrefix T w)) 0
 
--- the refusals after the book's, in their order: '8 a sentence has over 1,000 symbols', '7 a symbol is 0, or T or more', '11 lookahead T
--- or more', '13 work or stack cells too few'; what is left is the sizes
-unfoldable pub runAdmits : List ℕ → ℕ → ℕ → Checked → Checked
-runAdmits w z room (Checked.Refused r) = Checked.Refused r
-runAdmits w z room (Checked.Valid d) =
-    cond (ltb 1000 (length w)) (Checked.Refused (record { number = 8; place = 0 }))
-    (cond (ltb (soundPrefix (d .t) w) (length w)) (Checked.Refused (record { number = 7; place = soundPrefix (d .t) w }))
-    (cond (leb (d .t) z) (Checked.Refused (record { number = 11; place = 0 })) (cond (ltb room 1024) (Checked.Refused (record { number = 13; place = 0 })) (Checked.Valid d))))
+-- the refusals after the book's, in their order: '8 a sentence has over 1,000 symbols', '7 a symbol is 0, or T or more', '11 lookahead T or
+-- more', '13 work or stack cells too few'
+unfoldable pub runRefusals : List ℕ → ℕ → ℕ → Sizes → List (Bool × ℕ × ℕ)
+runRefusals w z room d =
+    (ltb 1000 (length w), 8, 0)
+    ∷ (ltb (soundPrefix (d .t) w) (length w), 7, soundPrefix (d .t) w)
+    ∷ (leb (d .t) z, 11, 0)
+    ∷ (ltb room 1024, 13, 0)
+    ∷ []
 
 -- 'The first 1,024 cells then hold the stack before the step that was not taken, bottom first, then zeros'; later ones keep their values
 abbrev pub stackLeft : List ℕ → List ℕ → List ℕ
@@ -74,5 +75,5 @@ stackLeft st lent = reverse st ++ replicate (1024 - length st) 0 ++ drop 1024 le
 -- what `run` answers and leaves in the lent stack cells. 'The stack starts as state 0 alone'; a refusal 'leaves all lent memory as it found it'
 unfoldable pub running : List ℕ → List ℕ → ℕ → List ℕ → Ran × List ℕ
 running cells w z lent =
-    elim (runAdmits w z (length lent) (checked (ofCells cells)))
+    elim (admits (checked (ofCells cells)) (runRefusals w z (length lent)))
     [ Checked.Refused r ↦ (Ran.Refused r, lent) | Checked.Valid d ↦ let (e, st) = runs (tablesOf cells) z w 0 (0 ∷ []) in (Ran.Ended e, stackLeft st lent) ]

@@ -1,0 +1,46 @@
+-- Laws of a call. Assumes nothing.
+use mathlib.Core.Bool.{Bool, true, false}
+use mathlib.Core.List.{List, [], _∷_}
+use mathlib.Core.Path.{_≡_, refl, sym, _∙_, ap}
+use Prim.Native.Nat.{ℕ}
+use native.Mathlib.Omega.{arith}
+use Rattle.number.specs.declared.Refusal.{Refusal}
+use Rattle.book.specs.Book.{ofCells, checked}
+use Rattle.book.specs.Call.{steps, admits, Tells, Concludes}
+use Rattle.book.specs.TablesLaws.{Holds}
+use Rattle.book.specs.declared.Checked.{Checked}
+use Rattle.book.specs.declared.Checked.the-variants.{Valid, Refused}
+use Rattle.book.specs.declared.Sizes.{Sizes}
+
+-- ---- what is admitted: no step refuses
+abbrev pub None : List (Bool × ℕ × ℕ) → Type 0
+None [] = Unit
+None ((this, number, place) ∷ more) = (this ≡ false) × None more
+
+steps-refused : (more : List (Bool × ℕ × ℕ)) (r : Refusal) → steps (Refused r) more ≡ Refused r
+steps-refused [] r = refl
+steps-refused (step ∷ more) r = steps-refused more r
+
+never : {r : Refusal} {d : Sizes} → Refused r ≡ Valid d → ⊥
+never e = let z : _≡_ {A = ℕ} 0 1 = cc in omega arith
+
+pub steps-none : (more : List (Bool × ℕ × ℕ)) {x d : Sizes} → steps (Valid x) more ≡ Valid d → (x ≡ d) × None more
+steps-none [] e = (cc, tt)
+steps-none ((true, number, place) ∷ more) e = absurd (never (sym (steps-refused more (record { number = number; place = place })) ∙ e))
+steps-none ((false, number, place) ∷ more) e = let (same, none) = steps-none more e in (same, (refl, none))
+
+pub admitted : (found : Checked) (after : Sizes → List (Bool × ℕ × ℕ)) (d : Sizes) → admits found after ≡ Valid d → (found ≡ Valid d) × None (after d)
+admitted (Refused r) after d e = absurd (never e)
+admitted (Valid x) after d e = let (same, none) = steps-none (after x) e in (ap Valid same, rw same at none)
+
+-- the check of a book that was checked
+pub holds-valid : {d : Sizes} {cells : List ℕ} → Holds d cells → checked (ofCells cells) ≡ Valid d
+holds-valid h = rw (h .book, ← h .sizes)
+
+-- ---- at most one conclusion is right where at most one thing is
+pub concludes-one : {Answer Lent Thing : Type 0} (found : Checked) (refusal : Refusal → Answer) (lent : Lent) (Right : Sizes → Thing → Type 0)
+    (tell : Sizes → Thing → Answer × Lent) (end other : Answer × Lent) → ((d : Sizes) (x y : Thing) → Right d x → Right d y → x ≡ y)
+    → Concludes found refusal lent Right tell end → Concludes found refusal lent Right tell other → end ≡ other
+concludes-one (Refused r) refusal lent Right tell end other one a b = a ∙ sym b
+concludes-one (Valid d) refusal lent Right tell end other one a b =
+    a .same ∙ ap (tell d) (one d (a .thing) (b .thing) (a .right) (b .right)) ∙ sym (b .same)
