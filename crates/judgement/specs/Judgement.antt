@@ -1,13 +1,14 @@
 -- The judgement of a list of sentences: the entries in turn, then the states without one; and what the call answers and leaves. Assumes nothing.
-use mathlib.Core.Bool.{Bool, false, cond, not, _&&_, _||_}
+use mathlib.Core.Bool.{Bool, true, false, cond, not, _&&_, _||_}
 use mathlib.Core.List.{List, [], _∷_}
 use mathlib.Core.Path.{_≡_}
 use Prim.Native.Nat.{ℕ, zero, suc, _<_}
 use lib.Dec.{ltb, eqb}
 use lib.ListN.{length, replicate}
 use Rattle.number.specs.Lent.{over}
-use Rattle.number.specs.declared.Refusal.{Refusal}
-use Rattle.book.specs.Tables.{Tables, tablesOf, sizesOf}
+use Rattle.book.specs.Book.{ofCells, checked}
+use Rattle.book.specs.Call.{admits, Concludes}
+use Rattle.book.specs.Tables.{Tables, tablesOf}
 use Rattle.book.specs.declared.Sizes.{Sizes}
 use Rattle.machine.specs.Run.{runs, stopOf}
 use Rattle.machine.specs.declared.Ending.{Ending}
@@ -87,21 +88,15 @@ pub data Judged (B : Tables) (c : Course) : Judgement → Type 0 where
   faultless : (states : List ℕ) (fails : ℕ → Bool) → c ≡ clean states → DecidesFails B fails → Judged B c (lowestState (uncovered fails states) (B .states) 0)
 
 -- ---- the call
--- 'Any other call that needs work or stack cells is lent at least as many as the finder or a run': '13 work or stack cells too few' after the
--- refusals of the book and the list, the work cells first, at place 0
-unfoldable pub admitsList : ℕ → ℕ → Sizes → Listed → Listed
-admitsList work stack d (refused r) = refused r
-admitsList work stack d (entries es end) =
-    cond (ltb work (workCells d)) (refused (record { number = 13; place = 0 }))
-    (cond (ltb stack 1024) (refused (record { number = 13; place = 0 })) (entries es end))
+-- the refusals after the book's: the list's, then '13 work or stack cells too few', the work cells first. 'Any other call that needs work or
+-- stack cells is lent at least as many as the finder or a run'
+unfoldable pub judgeRefusals : Listed → ℕ → ℕ → Sizes → List (Bool × ℕ × ℕ)
+judgeRefusals (refused r) work stack d = (true, r .number, r .place) ∷ []
+judgeRefusals (entries es end) work stack d = (ltb work (workCells d), 13, 0) ∷ (ltb stack 1024, 13, 0) ∷ []
 
--- '.. and leaves that many zero'
-abbrev pub zeroed : List ℕ → List ℕ
-zeroed stack = over (replicate 1024 0) stack
-
--- what `judge` answers and leaves in the work cells and in the stack cells. A refusal 'leaves all lent memory as it found it'
-pub data Judges (cells bytes work stack : List ℕ) : Judgement → List ℕ → List ℕ → Type 0 where
-  refuses : (r : Refusal) → admitsList (length work) (length stack) (sizesOf cells) (listIn cells bytes) ≡ refused r
-      → Judges cells bytes work stack (Refused r) work stack
-  judges : (es : List Entry) (end : ℕ) (j : Judgement) → admitsList (length work) (length stack) (sizesOf cells) (listIn cells bytes) ≡ entries es end
-      → Judged (tablesOf cells) (course (tablesOf cells) bytes 0 [] es) j → Judges cells bytes work stack j (cleared (sizesOf cells) work) (zeroed stack)
+-- what `judge` answers and leaves in the work cells and in the stack cells: it 'leaves that many zero'
+abbrev pub Judges : List ℕ → List ℕ → List ℕ → List ℕ → Judgement × (List ℕ × List ℕ) → Type 0
+Judges cells bytes work stack =
+    Concludes (admits (checked (ofCells cells)) (judgeRefusals (listIn cells bytes) (length work) (length stack))) Refused (work, stack)
+    (λ d j. (es : List Entry) × (end : ℕ) × (listIn cells bytes ≡ entries es end) × Judged (tablesOf cells) (course (tablesOf cells) bytes 0 [] es) j)
+    (λ d j. (j, (cleared d work, over (replicate 1024 0) stack)))

@@ -7,19 +7,25 @@ use Prim.Native.Nat.{ℕ, suc}
 use native.Mathlib.Omega.{arith}
 use borrow.Author.Tests.{eqb-true}
 use lib.Dec.{eqb}
-use lib.ListN.{length}
+use lib.ListN.{length, replicate}
+use Rattle.number.specs.Lent.{over}
+use Rattle.book.specs.Book.{ofCells, checked}
+use Rattle.book.specs.Call.{admits}
+use Rattle.book.specs.CallLaws.{concludes-one}
 use Rattle.book.specs.Tables.{Tables, tablesOf}
 use Rattle.machine.specs.MachineLaws.{clash}
 use Rattle.machine.specs.declared.Ending.{Ending}
 use Rattle.machine.specs.declared.Ending.the-variants.{Accepted, Error, Broken, Passed, Deep, Spinning}
 use Rattle.machine.specs.declared.Stop.{Stop}
 use Rattle.lists.specs.Entry.{sentence}
+use Rattle.lists.specs.List.{entries, listIn}
 use Rattle.lists.specs.declared.Entry.{Entry}
 use Rattle.finder.specs.FailingLaws.{decides-one}
+use Rattle.finder.specs.Finder.{cleared}
 use Rattle.judgement.specs.CoverageLaws.{lowest-same}
-use Rattle.judgement.specs.Judgement.{runOf, isRight, stateOf, among, Course, fault, clean, course, uncovered, Judged, faulty, faultless, Judges, refuses, judges}
+use Rattle.judgement.specs.Judgement.{runOf, isRight, stateOf, among, Course, fault, clean, course, uncovered, Judged, faulty, faultless, judgeRefusals, Judges}
 use Rattle.judgement.specs.declared.Judgement.{Judgement}
-use Rattle.judgement.specs.declared.Judgement.the-variants.{Wrong, Repeat}
+use Rattle.judgement.specs.declared.Judgement.the-variants.{Wrong, Repeat, Refused}
 
 pub one-judgement : {B : Tables} {c : Course} {j k : Judgement} → Judged B c j → Judged B c k → j ≡ k
 one-judgement (faulty j e) (faulty k f) = cc
@@ -29,15 +35,25 @@ one-judgement {B} (faultless states f e x) (faultless others g k y) =
     let same : states ≡ others = cc in
     rw same (lowest-same (uncovered f others) (uncovered g others) (B .states) 0 (λ s h. rw (decides-one (x s (omega arith)) (y s (omega arith)))))
 
--- .. and so what `judge` answers is one
-pub one-answer : {cells bytes work stack w s v t : List ℕ} {j k : Judgement} → Judges cells bytes work stack j w s → Judges cells bytes work stack k v t → j ≡ k
-one-answer (refuses r e) (refuses q f) = cc
-one-answer (refuses r e) (judges es end k f x) = absurd (clash cc)
-one-answer (judges es end j e x) (refuses q f) = absurd (clash cc)
-one-answer {cells} {bytes} {j} (judges es end _ e x) (judges others last _ f y) =
+-- .. and so what `judge` answers and leaves is one
+abbrev JudgedIn : List ℕ → List ℕ → Judgement → Type 0
+JudgedIn cells bytes j = (es : List Entry) × (end : ℕ) × (listIn cells bytes ≡ entries es end) × Judged (tablesOf cells) (course (tablesOf cells) bytes 0 [] es) j
+
+judged-one : (cells bytes : List ℕ) (j k : Judgement) → JudgedIn cells bytes j → JudgedIn cells bytes k → j ≡ k
+judged-one cells bytes j k (es, end, e, x) (others, last, f, y) =
     let same : es ≡ others = cc in
     let z : Judged (tablesOf cells) (course (tablesOf cells) bytes 0 [] others) j = rw same at x in
     one-judgement z y
+
+pub one-answer : (cells bytes work stack : List ℕ) (end other : Judgement × (List ℕ × List ℕ)) → Judges cells bytes work stack end
+    → Judges cells bytes work stack other → end ≡ other
+one-answer cells bytes work stack end other =
+    concludes-one (admits (checked (ofCells cells)) (judgeRefusals (listIn cells bytes) (length work) (length stack))) Refused (work, stack)
+    (λ d. JudgedIn cells bytes)
+    (λ d j. (j, (cleared d work, over (replicate 1024 0) stack)))
+    end
+    other
+    (λ d. judged-one cells bytes)
 
 -- ---- a state has an entry where a run, within its limits, ends in it as error with its whole sentence in
 pub record Ends (B : Tables) (bytes : List ℕ) (s : ℕ) (e : Entry) : Type 0 where

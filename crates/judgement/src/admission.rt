@@ -1,39 +1,22 @@
-// What is checked before a list is judged: the list, and the room that is lent.
+// What is checked after book and list before a list is judged: the room that is lent.
+ghost use mathlib.Core.List.{[]};
 ghost use mathlib.Core.Path.{_≡_};
-ghost use Rattle.book.specs.TablesLaws.{Holds};
-ghost use Rattle.lists.specs.List.{listIn, listing};
-ghost use Rattle.lists.specs.declared.Listing.the-variants.{Refused as ListingRefused};
-ghost use Rattle.judgement.specs.Judgement.{admitsList};
+ghost use Rattle.book.specs.Call.{steps};
+ghost use Rattle.book.specs.Range.{Small};
+ghost use Rattle.book.specs.declared.Checked.the-variants.{Valid};
+ghost use Rattle.lists.specs.List.{entries};
+ghost use Rattle.judgement.specs.Judgement.{judgeRefusals};
+use book::Checked;
 use book::Sizes;
 use finder::work_cells;
-use lists::Listing;
-use lists::check_list;
 use machine::DEPTH;
-use number::Refusal;
 
-fn too_few() -> Listing
-    ensures { λ r. ⌜ r ≡ ListingRefused (record { number = 13; place = 0 }) ⌝ }
+// The refusals for any list that is not refused.
+pub fn admit_room(d: Sizes, work: usize, stack: usize) -> Checked
+    requires { ⌜ Small d ⌝ }
+    ensures { λ r. ⌜ r ≡ steps (Valid d) (judgeRefusals (entries [] 0) work stack d) ⌝ }
 {
-    Listing::Refused(Refusal {
-        number: 13,
-        place: 0,
-    })
-}
-
-// Where the first entry begins and how many there are, or the first refusal.
-pub fn admit(cells: &[u16], d: Sizes, list: &[u8], work: usize, stack: usize) -> Listing
-    requires { ⌜ Holds d (now cells) ⌝ }
-    ensures { λ r. ⌜ r ≡ listing (now (list .entry)) (admitsList work stack d (listIn (now (cells .entry)) (now (list .entry)))) ⌝ }
-{
-    let found = check_list(cells, list);
-    let Listing::Entries(_) = found else {
-        return found;
-    };
-    if work < work_cells(d) {
-        return too_few();
-    }
-    if stack < DEPTH {
-        return too_few();
-    }
-    found
+    Checked::Valid(d)
+        .unless(work < work_cells(d), 13, 0)
+        .unless(stack < DEPTH, 13, 0)
 }

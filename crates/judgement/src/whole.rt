@@ -6,11 +6,13 @@ ghost use Rattle.book.specs.Tables.{tablesOf};
 ghost use Rattle.book.specs.TablesLaws.{Holds};
 ghost use Rattle.layers.specs.Crossing.{room};
 ghost use Rattle.crossings.specs.Crossings.{Beyond};
+ghost use Rattle.lists.specs.List.{listIn, listing};
+ghost use Rattle.lists.specs.declared.Listing.the-variants.{Entries};
 ghost use Rattle.judgement.specs.Judgement.{Judged, Judges};
 ghost use Rattle.judgement.specs.Turns.{EntriesStanding, courseAt};
 use crate::Faults;
 use crate::Judgement;
-use crate::admission::admit;
+use crate::admission::admit_room;
 use crate::coverage::cover;
 use crate::entries::judge_entries;
 use book::Checked;
@@ -18,6 +20,8 @@ use book::Sizes;
 use finder::clear;
 use finder::work_cells;
 use lists::Listing;
+use lists::Rest;
+use lists::check_list;
 use machine::DEPTH;
 
 // The judgement of the entries that stand from an offset on.
@@ -45,20 +49,22 @@ fn judge_from(
     }
 }
 
-// The judgement against a book that was checked.
-fn judge_against(
+// The judgement of a list that was checked: its entries are these.
+fn judge_list(
     cells: &[u16],
     d: Sizes,
     list: &[u8],
+    rest: Rest,
     work: &mut [u16],
     stack: &mut [u16],
 ) -> Judgement
     requires { ⌜ Holds d (now cells) ⌝ }
-    ensures { λ r. ⌜ Judges (now (cells .entry)) (now (list .entry)) (now (work .entry)) (now (stack .entry)) r (now (work .exit)) (now (stack .exit)) ⌝ }
+    requires { ⌜ listing (now list) (listIn (now cells) (now list)) ≡ Entries rest ⌝ }
+    ensures { λ r. ⌜ Judges (now (cells .entry)) (now (list .entry)) (now (work .entry)) (now (stack .entry)) (r, (now (work .exit), now (stack .exit))) ⌝ }
 {
-    match admit(cells, d, list, work.len(), stack.len()) {
-        Listing::Refused(r) => Judgement::Refused(r),
-        Listing::Entries(rest) => {
+    match admit_room(d, work.len(), stack.len()) {
+        Checked::Refused(r) => Judgement::Refused(r),
+        Checked::Valid(_) => {
             let first = rest.at;
             let count = rest.left;
             let found = judge_from(cells, d, list, first, count, work, stack);
@@ -70,10 +76,27 @@ fn judge_against(
     }
 }
 
+// The judgement against a book that was checked.
+fn judge_against(
+    cells: &[u16],
+    d: Sizes,
+    list: &[u8],
+    work: &mut [u16],
+    stack: &mut [u16],
+) -> Judgement
+    requires { ⌜ Holds d (now cells) ⌝ }
+    ensures { λ r. ⌜ Judges (now (cells .entry)) (now (list .entry)) (now (work .entry)) (now (stack .entry)) (r, (now (work .exit), now (stack .exit))) ⌝ }
+{
+    match check_list(cells, list) {
+        Listing::Refused(r) => Judgement::Refused(r),
+        Listing::Entries(rest) => judge_list(cells, d, list, rest, work, stack),
+    }
+}
+
 // Judges a list against the book in the cells. Leaves the first T × T × S × (N + 8) work cells and the first 1,024 stack cells zero; or
 // refuses by the refusals of `check_list`, then 13 for the work cells, then 13 for the stack cells, and changes no cell.
 pub fn judge(cells: &[u16], list: &[u8], work: &mut [u16], stack: &mut [u16]) -> Judgement
-    ensures { λ r. ⌜ Judges (now (cells .entry)) (now (list .entry)) (now (work .entry)) (now (stack .entry)) r (now (work .exit)) (now (stack .exit)) ⌝ }
+    ensures { λ r. ⌜ Judges (now (cells .entry)) (now (list .entry)) (now (work .entry)) (now (stack .entry)) (r, (now (work .exit), now (stack .exit))) ⌝ }
 {
     match book::check(cells) {
         Checked::Refused(r) => Judgement::Refused(r),

@@ -1,0 +1,37 @@
+-- `judgement::whole::judge_list` meets its contract: what is admitted is judged, and the lent cells are cleared. Assumes nothing.
+use denote.Ref.{now}
+use mathlib.Core.Path.{sym, _∙_}
+use native.Mathlib.Omega.{arith}
+use Rattle.judgement.specs.AdmissionLaws.{accepted, accepted-standing, room-enough, judge-unroomed, judge-answered}
+use borrow.Author.Needs.{needs}
+use Rattle.judgement.proofs.whole.judge_list.Statement.{statement}
+use Rattle.judgement.proofs.whole.judge_list.Tie as tie
+
+judge-from-requires : tie.Need-judge-from-requires
+judge-from-requires c κs =
+    let p = c .before .before .before .before .before .before .before .before .before .pre in
+    let m = room-enough _ _ _ (sym (c .before .before .before .before .admit-room .ensures) ∙ c .before .before .enum-told .given .1) in
+    (p .0, (accepted-standing (p .0) (accepted _ _ (p .1)), (omega (arith, m .0), m .1)))
+
+clear-requires : tie.Need-clear-requires
+clear-requires c κs = omega (arith, room-enough _ _ _ (sym (c .before .before .before .before .before .before .before .before .before .before .before .admit-room .ensures) ∙ c .before .before .before .before .before .before .before .before .before .enum-told .given .1) .0)
+
+clear-requires-2 : tie.Need-clear-requires-2
+clear-requires-2 c κs = omega (arith, room-enough _ _ _ (sym (c .before .before .before .before .before .before .before .before .before .before .before .before .before .before .before .admit-room .ensures) ∙ c .before .before .before .before .before .before .before .before .before .before .before .before .before .enum-told .given .1) .1)
+
+returns : tie.Need-returns
+returns c =
+    let p = c .before .before .before .before .before .before .before .before .pre in
+    let a = c .before .before .before .before .before .before .before .before .args in
+    judge-unroomed (now (a .cells)) (now (a .list)) (now (a .work)) (now (a .stack)) (p .0) (accepted _ _ (p .1)) (sym (c .before .before .before .admit-room .ensures) ∙ c .before .r .given .1)
+
+returns-2 : tie.Need-returns-2
+returns-2 c =
+    let p = c .before .before .before .before .before .before .before .before .before .before .before .before .before .before .before .before .before .before .before .before .before .before .before .pre in
+    let a = c .before .before .before .before .before .before .before .before .before .before .before .before .before .before .before .before .before .before .before .before .before .before .before .args in
+    let j = c .before .before .before .before .before .before .before .before .before .before .before .before .before .judge-from in
+    judge-answered (now (a .cells)) (now (a .list)) (now (a .work)) (now (a .stack)) (p .0) (j .last .1 .1 .1 .1 .1 .1 .0) (accepted _ _ (p .1)) (sym (c .before .before .before .before .before .before .before .before .before .before .before .before .before .before .before .before .before .before .admit-room .ensures) ∙ c .before .before .before .before .before .before .before .before .before .before .before .before .before .before .before .before .enum-told .given .1)
+    (j .ensures .0) (j .ensures .1 .0) (c .before .before .before .before .before .before .before .before .work-cells .ensures) (c .before .before .before .before .before .before .clear .ensures) (j .ensures .1 .1) (c .before .before .clear2 .ensures)
+
+pub judge-list-spec : {M : Type 1} → statement M
+judge-list-spec = tie.close (tie.spec (λ c κs. search needs) (λ c. search needs) (λ c. search needs) judge-from-requires (λ c κs. search needs) clear-requires clear-requires-2 returns (λ c. search needs) (λ c. search needs) returns-2)
