@@ -2,8 +2,8 @@
 ghost use mathlib.Core.List.{[]};
 ghost use mathlib.Core.Path.{_≡_};
 ghost use Rattle.book.specs.Call.{steps};
-ghost use Rattle.book.specs.Range.{Small};
 ghost use Rattle.book.specs.declared.Checked.the-variants.{Valid};
+ghost use Rattle.book.specs.RangeLaws.{Small};
 ghost use Rattle.lists.specs.List.{entries};
 ghost use Rattle.judgement.specs.Judgement.{judgeRefusals};
 use book::Checked;

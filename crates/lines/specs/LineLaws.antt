@@ -37,17 +37,20 @@ outcome-fits B s z Far buffer a = tt
 outcome-fits B s z (Word w) buffer a = (omega (arith, a .1, cost-length w), simp length-append (omega arith))
 
 module _ {B : Tables} {s z : ℕ} {buffer left : List ℕ} {r : Found} where
-  answered-words : (a : Answered B s z buffer r left) → words r left ≡ told (a .outcome)
-  answered-words a = rw (a .told, a .front) (outcome-words (a .outcome) buffer)
+  told-as : (a : Answered B s z buffer r left) → (r ≡ found (a .thing)) × (left ≡ over (sentenceOf (a .thing)) buffer)
+  told-as a = (ap (λ (p : Found × List ℕ). p .0) (a .same), ap (λ (p : Found × List ℕ). p .1) (a .same))
+
+  answered-words : (a : Answered B s z buffer r left) → words r left ≡ told (a .thing)
+  answered-words a = rw (told-as a .0, told-as a .1) (outcome-words (a .thing) buffer)
 
   pub answered-fits : Answered B s z buffer r left → Fitting r left
-  answered-fits a = rw (a .told, a .front) (outcome-fits B s z (a .outcome) buffer (a .right))
+  answered-fits a = rw (told-as a .0, told-as a .1) (outcome-fits B s z (a .thing) buffer (a .right))
 
   pub answered-line : {lent now : List ℕ} {at next : ℕ} → Answered B s z buffer r left
       → Put ((decimal s ++ 32 ∷ decimal z) ++ (spaced (words r left) ++ 10 ∷ [])) lent at now next → PairListed B s z buffer lent at left now next
   answered-line {lent} {now} {at} {next} a p =
       let e = pair-words (decimal s) (decimal z) (words r left) ∙ ap (λ (ws : List (List ℕ)). line (decimal s) (decimal z ∷ ws)) (answered-words a) in
-      record { outcome = a .outcome; right = a .right; front = a .front; put = subst (λ (l : List ℕ). Put l lent at now next) e p }
+      record { outcome = a .thing; right = a .right; front = told-as a .1; put = subst (λ (l : List ℕ). Put l lent at now next) e p }
 
 -- at most one line is right
 pub line-one : {B : Tables} {s z at next next′ : ℕ} {buffer lent filled filled′ left left′ : List ℕ} → PairListed B s z buffer lent at filled left next

@@ -1,26 +1,34 @@
 // What is checked before a listing, and the crossing table that serves all its lines.
 ghost use mathlib.Core.Path.{_≡_};
-ghost use Rattle.book.specs.Book.{ofCells, checked};
-ghost use Rattle.lines.specs.Prepare.{admitsListing, Prepared};
+ghost use Rattle.book.specs.Call.{steps};
+ghost use Rattle.book.specs.TablesLaws.{Holds};
+ghost use Rattle.book.specs.declared.Checked.the-variants.{Valid};
+ghost use Rattle.book.specs.RangeLaws.{Small};
+ghost use Rattle.lines.specs.Prepare.{listingRefusals, Prepared};
 use book::Checked;
+use book::Sizes;
 use crossings::crossings;
 use finder::work_cells;
 use layers::open_rows;
-use number::Refusal;
 
-fn admit(cells: &[u16], work: usize) -> Checked
-    ensures { λ r. ⌜ r ≡ admitsListing work (checked (ofCells (now (cells .entry)))) ⌝ }
+fn admit(d: Sizes, work: usize) -> Checked
+    requires { ⌜ Small d ⌝ }
+    ensures { λ r. ⌜ r ≡ steps (Valid d) (listingRefusals work d) ⌝ }
 {
-    let found = book::check(cells);
-    let Checked::Valid(d) = found else {
+    Checked::Valid(d).unless(work < work_cells(d), 13, 0)
+}
+
+fn prepare_in(cells: &[u16], d: Sizes, work: &mut [u16]) -> Checked
+    requires { ⌜ Holds d (now cells) ⌝ }
+    ensures { λ r. ⌜ Prepared (now (cells .entry)) (now (work .entry)) r (now (work .exit)) ⌝ }
+{
+    let found = admit(d, work.len());
+    let Checked::Valid(_) = found else {
         return found;
     };
-    if work < work_cells(d) {
-        return Checked::Refused(Refusal {
-            number: 13,
-            place: 0,
-        });
-    }
+    let mut rows = [0u8; 4096];
+    open_rows(cells, d, &mut rows);
+    crossings(cells, d, work, &rows);
     found
 }
 
@@ -28,12 +36,8 @@ fn admit(cells: &[u16], work: usize) -> Checked
 pub fn prepare(cells: &[u16], work: &mut [u16]) -> Checked
     ensures { λ r. ⌜ Prepared (now (cells .entry)) (now (work .entry)) r (now (work .exit)) ⌝ }
 {
-    let found = admit(cells, work.len());
-    let Checked::Valid(d) = found else {
-        return found;
-    };
-    let mut rows = [0u8; 4096];
-    open_rows(cells, d, &mut rows);
-    crossings(cells, d, work, &rows);
-    found
+    match book::check(cells) {
+        Checked::Refused(r) => Checked::Refused(r),
+        Checked::Valid(d) => prepare_in(cells, d, work),
+    }
 }
