@@ -1,7 +1,8 @@
 // Lists of sentences: checked, their entries by index and one after another, and judged.
 ghost use mathlib.Core.Path.{_≡_};
 ghost use Rattle.lists.specs.List.{listIn, listing, nextAt, nthIn};
-ghost use Rattle.told.specs.Told.{toldListed, toldEntry, toldNext, JudgeTold};
+ghost use Rattle.judgement.specs.Judgement.{Judges};
+ghost use Rattle.told.specs.Told.{toldListed, toldEntry, toldNext, toldJudged, Told};
 use told::tell_entry;
 use told::tell_judged;
 use told::tell_listed;
@@ -41,7 +42,7 @@ pub extern "C" fn purlquartz_judge(
     stack: &mut [u16],
     answer: &mut [u64; 8],
 )
-    ensures { λ _. ⌜ JudgeTold (now (cells .entry)) (now (list .entry)) (now (work .entry)) (now (stack .entry)) (now (answer .exit)) (now (work .exit)) (now (stack .exit)) ⌝ }
+    ensures { λ _. ⌜ Told (Judges (now (cells .entry)) (now (list .entry)) (now (work .entry)) (now (stack .entry))) toldJudged (now (answer .exit)) (now (work .exit), now (stack .exit)) ⌝ }
 {
     *answer = tell_judged(judgement::judge(cells, list, work, stack));
 }

@@ -1,5 +1,6 @@
 // What sequences reach: one pair, the whole map, the sets.
-ghost use Rattle.told.specs.Told.{FindTold, MapTold, SetsTold};
+ghost use Rattle.finder.specs.Finder.{Finds, Maps, Gathers};
+ghost use Rattle.told.specs.Told.{toldWritten, toldFound, Told};
 use told::tell_found;
 use told::tell_written;
 
@@ -12,7 +13,7 @@ pub extern "C" fn purlquartz_find(
     buffer: &mut [u8],
     answer: &mut [u64; 8],
 )
-    ensures { λ _. ⌜ FindTold (now (cells .entry)) state lookahead (now (work .entry)) (now (buffer .entry)) (now (answer .exit)) (now (work .exit)) (now (buffer .exit)) ⌝ }
+    ensures { λ _. ⌜ Told (Finds (now (cells .entry)) state lookahead (now (work .entry)) (now (buffer .entry))) toldFound (now (answer .exit)) (now (work .exit), now (buffer .exit)) ⌝ }
 {
     *answer = tell_found(finder::find(cells, state, lookahead, work, buffer));
 }
@@ -24,7 +25,7 @@ pub extern "C" fn purlquartz_map(
     map: &mut [u16],
     answer: &mut [u64; 8],
 )
-    ensures { λ _. ⌜ MapTold (now (cells .entry)) (now (work .entry)) (now (map .entry)) (now (answer .exit)) (now (work .exit)) (now (map .exit)) ⌝ }
+    ensures { λ _. ⌜ Told (Maps (now (cells .entry)) (now (work .entry)) (now (map .entry))) toldWritten (now (answer .exit)) (now (work .exit), now (map .exit)) ⌝ }
 {
     *answer = tell_written(finder::map(cells, work, map));
 }
@@ -37,7 +38,7 @@ pub extern "C" fn purlquartz_sets(
     sizes: &mut [u32],
     answer: &mut [u64; 8],
 )
-    ensures { λ _. ⌜ SetsTold (now (cells .entry)) (now (work .entry)) (now (masks .entry)) (now (sizes .entry)) (now (answer .exit)) (now (work .exit)) (now (masks .exit)) (now (sizes .exit)) ⌝ }
+    ensures { λ _. ⌜ Told (Gathers (now (cells .entry)) (now (work .entry)) (now (masks .entry)) (now (sizes .entry))) toldWritten (now (answer .exit)) (now (work .exit), (now (masks .exit), now (sizes .exit))) ⌝ }
 {
     *answer = tell_written(finder::sets(cells, work, masks, sizes));
 }

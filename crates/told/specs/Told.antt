@@ -1,10 +1,10 @@
 -- The answers as numbers, for callers in other languages. Assumes nothing.
 use mathlib.Core.List.{List, [], _∷_}
-use mathlib.Core.Path.{_≡_}
 use Prim.Native.Nat.{ℕ}
 use lib.ListN.{replicate}
 use Rattle.number.specs.Lent.{over}
 use Rattle.number.specs.declared.Refusal.{Refusal}
+use Rattle.book.specs.Call.{Tells}
 use Rattle.book.specs.declared.Checked.{Checked}
 use Rattle.book.specs.declared.Checked.the-variants.{Valid, Refused as CheckedRefused}
 use Rattle.book.specs.declared.Written.{Written}
@@ -17,7 +17,6 @@ use Rattle.machine.specs.declared.Ran.the-variants.{Ended, Refused as RanRefuse
 use Rattle.machine.specs.declared.Stop.{Stop}
 use Rattle.finder.specs.declared.Found.{Found}
 use Rattle.finder.specs.declared.Found.the-variants.{Unreached, Long, Sentence, Refused as FoundRefused}
-use Rattle.finder.specs.Finder.{Finds, Maps, Gathers}
 use Rattle.lists.specs.declared.Listing.{Listing}
 use Rattle.lists.specs.declared.Listing.the-variants.{Entries, Refused as ListingRefused}
 use Rattle.lists.specs.declared.Next.{Next}
@@ -26,7 +25,6 @@ use Rattle.lists.specs.declared.Nth.{Nth}
 use Rattle.lists.specs.declared.Nth.the-variants.{Found as One, None, Refused as NthRefused}
 use Rattle.judgement.specs.declared.Judgement.{Judgement}
 use Rattle.judgement.specs.declared.Judgement.the-variants.{Wrong, Repeat, Uncovered, Complete, Refused as JudgementRefused}
-use Rattle.judgement.specs.Judgement.{Judges}
 
 -- 'Where an answer is an enum, a definition gives this paper's number and values for each of its cases': eight numbers, the kind first
 -- and then its values, 0 where there is none
@@ -98,26 +96,6 @@ toldJudged (Uncovered s) = eight (2 ∷ s ∷ [])
 toldJudged (Repeat i) = eight (3 ∷ i ∷ [])
 toldJudged (Wrong i e) = toldWrong i (kindOf e) (stopOf e)
 
--- one pair: an answer that is right, and its numbers
-pub record FindTold (cells : List ℕ) (s z : ℕ) (work buffer answer worked left : List ℕ) : Type 0 where
-  pub given : Found
-  pub right : Finds cells s z work buffer given worked left
-  pub told : answer ≡ toldFound given
-
--- the whole map: an answer that is right, and its numbers
-pub record MapTold (cells work lent answer worked left : List ℕ) : Type 0 where
-  pub given : Written
-  pub right : Maps cells work lent given worked left
-  pub told : answer ≡ toldWritten given
-
--- the sets: an answer that is right, and its numbers
-pub record SetsTold (cells work masks sizes answer worked masksLeft sizesLeft : List ℕ) : Type 0 where
-  pub given : Written
-  pub right : Gathers cells work masks sizes given worked masksLeft sizesLeft
-  pub told : answer ≡ toldWritten given
-
--- the judgement: an answer that is right, and its numbers
-pub record JudgeTold (cells bytes work stack answer worked stackLeft : List ℕ) : Type 0 where
-  pub given : Judgement
-  pub right : Judges cells bytes work stack given worked stackLeft
-  pub told : answer ≡ toldJudged given
+-- an answer that is right, with what lent memory holds after the call, and its numbers
+abbrev pub Told : {Answer Lent : Type 0} → (Answer × Lent → Type 0) → (Answer → List ℕ) → List ℕ → Lent → Type 0
+Told Right tell numbers left = Tells (λ r. Right (r, left)) tell numbers
