@@ -1,17 +1,12 @@
 -- A call: what refuses it before it does anything, and what it answers and leaves. Assumes nothing.
-use mathlib.Core.Bool.{Bool, cond}
-use mathlib.Core.List.{List, [], _∷_}
-use mathlib.Core.Path.{_≡_}
-use Prim.Native.Nat.{ℕ}
+use Rattle.number.specs.Words.{Bool, cond, List, [], _∷_, _≡_, ℕ}
 use Rattle.number.specs.declared.Refusal.{Refusal}
-use Rattle.book.specs.declared.Checked.{Checked}
-use Rattle.book.specs.declared.Checked.the-variants.{Valid, Refused}
-use Rattle.book.specs.declared.Sizes.{Sizes}
+use Rattle.book.specs.declared.{Checked.Checked, Sizes.Sizes}
 
 -- one step of an admission: where this holds the call is refused by the number at the place, unless it is refused already
 abbrev pub unless : Checked → Bool → ℕ → ℕ → Checked
-unless (Refused r) this number place = Refused r
-unless (Valid d) this number place = cond this (Refused (record { number = number; place = place })) (Valid d)
+unless (Checked.Refused r) this number place = Checked.Refused r
+unless (Checked.Valid d) this number place = cond this (Checked.Refused (record { number = number; place = place })) (Checked.Valid d)
 
 -- the steps of an admission in their order
 abbrev pub steps : Checked → List (Bool × ℕ × ℕ) → Checked
@@ -20,8 +15,8 @@ steps found ((this, number, place) ∷ more) = steps (unless found this number p
 
 -- 'Order: book from the front ..; then ..': the check of the book, then the steps for its sizes
 abbrev pub admits : Checked → (Sizes → List (Bool × ℕ × ℕ)) → Checked
-admits (Refused r) after = Refused r
-admits (Valid d) after = steps (Valid d) (after d)
+admits (Checked.Refused r) after = Checked.Refused r
+admits (Checked.Valid d) after = steps (Checked.Valid d) (after d)
 
 -- what is told is something right
 pub record Tells {Thing Told : Type 0} (Right : Thing → Type 0) (tell : Thing → Told) (told : Told) : Type 0 where
@@ -33,5 +28,5 @@ pub record Tells {Thing Told : Type 0} (Right : Thing → Type 0) (tell : Thing 
 -- admitted, something right, told in both
 abbrev pub Concludes : {Answer Lent Thing : Type 0} → Checked → (Refusal → Answer) → Lent → (Sizes → Thing → Type 0)
     → (Sizes → Thing → Answer × Lent) → Answer × Lent → Type 0
-Concludes (Refused r) refusal lent Right tell end = end ≡ (refusal r, lent)
-Concludes (Valid d) refusal lent Right tell end = Tells (Right d) (tell d) end
+Concludes (Checked.Refused r) refusal lent Right tell end = end ≡ (refusal r, lent)
+Concludes (Checked.Valid d) refusal lent Right tell end = Tells (Right d) (tell d) end

@@ -1,25 +1,11 @@
 -- The judgement of a list of sentences: the entries in turn, then the states without one; and what the call answers and leaves. Assumes nothing.
-use mathlib.Core.Bool.{Bool, true, false, cond, not, _&&_, _||_}
-use mathlib.Core.List.{List, [], _∷_}
-use mathlib.Core.Path.{_≡_}
-use Prim.Native.Nat.{ℕ, zero, suc, _<_}
-use lib.Dec.{ltb, eqb}
-use lib.ListN.{length, replicate}
+use Rattle.number.specs.Words.{Bool, true, false, cond, not, _&&_, _||_, List, [], _∷_, length, replicate, _≡_, ℕ, zero, suc, _<_, ltb, eqb}
 use Rattle.number.specs.Lent.{over}
-use Rattle.book.specs.Book.{ofCells, checked}
-use Rattle.book.specs.Call.{admits, Concludes}
-use Rattle.book.specs.Tables.{Tables, tablesOf}
-use Rattle.book.specs.declared.Sizes.{Sizes}
-use Rattle.machine.specs.Run.{runs, stopOf}
-use Rattle.machine.specs.declared.Ending.{Ending}
-use Rattle.machine.specs.declared.Ending.the-variants.{Accepted, Error, Broken, Passed, Deep, Spinning}
-use Rattle.lists.specs.Entry.{sentence}
-use Rattle.lists.specs.List.{Listed, entries, refused, listIn}
-use Rattle.lists.specs.declared.Entry.{Entry}
-use Rattle.finder.specs.Failing.{FailingPair, Decides}
-use Rattle.finder.specs.Finder.{workCells, cleared}
+use Rattle.book.specs.{Book.ofCells, Book.checked, Call.admits, Call.Concludes, Tables.Tables, Tables.tablesOf, declared.Sizes.Sizes}
+use Rattle.machine.specs.{Run.runs, Run.stopOf, declared.Ending.Ending}
+use Rattle.lists.specs.{Entry.sentence, List.Listed, List.entries, List.refused, List.listIn, declared.Entry.Entry}
+use Rattle.finder.specs.{Failing.FailingPair, Failing.Decides, Finder.workCells, Finder.cleared}
 use Rattle.judgement.specs.declared.Judgement.{Judgement}
-use Rattle.judgement.specs.declared.Judgement.the-variants.{Wrong, Repeat, Uncovered, Complete, Refused}
 
 -- ---- an entry
 -- 'the entry's run', under the limits of a run; its sentence is 'that part of the list's own bytes'
@@ -28,12 +14,12 @@ runOf B bytes e = runs B (e .lookahead) (sentence bytes e) 0 (0 ∷ []) .0
 
 -- 'wrong if the entry's run does not end as error with its whole sentence in': so many symbols
 abbrev pub isRight : ℕ → Ending → Bool
-isRight len (Error stop) = eqb (stop .taken) len
-isRight len (Accepted stop) = false
-isRight len (Broken stop) = false
-isRight len (Passed stop) = false
-isRight len (Deep stop) = false
-isRight len (Spinning stop) = false
+isRight len (Ending.Error stop) = eqb (stop .taken) len
+isRight len (Ending.Accepted stop) = false
+isRight len (Ending.Broken stop) = false
+isRight len (Ending.Passed stop) = false
+isRight len (Ending.Deep stop) = false
+isRight len (Ending.Spinning stop) = false
 
 -- the state that a run 'ends in'
 abbrev pub stateOf : Ending → ℕ
@@ -54,8 +40,8 @@ pub data Course : Type 0 where
 abbrev pub entered : ℕ → ℕ → List ℕ → Ending → (List ℕ → Course) → Course
 entered i len states ending onward =
     cond (isRight len ending)
-    (cond (among (stateOf ending) states) (fault (Repeat i)) (onward (stateOf ending ∷ states)))
-    (fault (Wrong i ending))
+    (cond (among (stateOf ending) states) (fault (Judgement.Repeat i)) (onward (stateOf ending ∷ states)))
+    (fault (Judgement.Wrong i ending))
 
 -- 'The judgement takes entries in turn and stops at the first fault, told with its entry's index from 0': from the entry of index i on.
 -- Only a run gives a state an entry, so 'A state whose failing pairs are all long, or fail only past a run's limits, stays uncovered'
@@ -75,8 +61,8 @@ DecidesFails B fails = (s : ℕ) → s < B .states → Decides (fails s) (Fails 
 
 -- 'uncovered, with the lowest state' that lacks an entry, of k states from s on, 'or else complete'
 unfoldable pub lowestState : (ℕ → Bool) → ℕ → ℕ → Judgement
-lowestState lacks zero s = Complete
-lowestState lacks (suc k) s = cond (lacks s) (Uncovered s) (lowestState lacks k (suc s))
+lowestState lacks zero s = Judgement.Complete
+lowestState lacks (suc k) s = cond (lacks s) (Judgement.Uncovered s) (lowestState lacks k (suc s))
 
 -- '.. that has a failing pair and no entry'
 abbrev pub uncovered : (ℕ → Bool) → List ℕ → ℕ → Bool
@@ -97,6 +83,6 @@ judgeRefusals (entries es end) work stack d = (ltb work (workCells d), 13, 0) �
 -- what `judge` answers and leaves in the work cells and in the stack cells: it 'leaves that many zero'
 abbrev pub Judges : List ℕ → List ℕ → List ℕ → List ℕ → Judgement × (List ℕ × List ℕ) → Type 0
 Judges cells bytes work stack =
-    Concludes (admits (checked (ofCells cells)) (judgeRefusals (listIn cells bytes) (length work) (length stack))) Refused (work, stack)
+    Concludes (admits (checked (ofCells cells)) (judgeRefusals (listIn cells bytes) (length work) (length stack))) Judgement.Refused (work, stack)
     (λ d j. (es : List Entry) × (end : ℕ) × (listIn cells bytes ≡ entries es end) × Judged (tablesOf cells) (course (tablesOf cells) bytes 0 [] es) j)
     (λ d j. (j, (cleared d work, over (replicate 1024 0) stack)))
