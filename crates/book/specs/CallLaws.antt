@@ -6,7 +6,7 @@ use Prim.Native.Nat.{ℕ}
 use native.Mathlib.Omega.{arith}
 use Rattle.number.specs.declared.Refusal.{Refusal}
 use Rattle.book.specs.Book.{ofCells, checked}
-use Rattle.book.specs.Call.{steps, admits, Tells, Concludes}
+use Rattle.book.specs.Call.{steps, admits, Concludes}
 use Rattle.book.specs.TablesLaws.{Holds}
 use Rattle.book.specs.declared.Checked.{Checked}
 use Rattle.book.specs.declared.Checked.the-variants.{Valid, Refused}

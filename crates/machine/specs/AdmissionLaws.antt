@@ -1,5 +1,5 @@
 -- Laws of what is refused before a run. Assumes nothing.
-use mathlib.Core.Path.{_≡_, refl}
+use mathlib.Core.Path.{_≡_}
 use mathlib.Core.Bool.{Bool, true, false, cond, and-false, _&&_}
 use mathlib.Core.List.{List, [], _∷_}
 use Prim.Native.Nat.{ℕ, zero, suc, _+_, _≤_, _<_}
@@ -19,7 +19,6 @@ use Rattle.book.specs.Tables.{tablesOf}
 use Rattle.book.specs.declared.Checked.{Checked}
 use Rattle.book.specs.declared.Checked.the-variants.{Valid, Refused as CheckedRefused}
 use Rattle.book.specs.declared.Sizes.{Sizes}
-use Rattle.machine.specs.MachineLaws.{clash}
 use Rattle.machine.specs.Run.{runs, soundPrefix, runRefusals, running}
 use Rattle.machine.specs.Stack.{RanTo}
 use Rattle.machine.specs.declared.Ending.{Ending}
