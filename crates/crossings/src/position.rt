@@ -138,14 +138,14 @@ pub fn mark_all(cells: &[u16], d: Sizes, positions: &mut [u8; 4096])
     }
 }
 
-// The flags of all states after n + 1 transitions.
-pub fn copy_row(positions: &[u8; 4096], n: usize, wanted: &mut [u8; 128])
-    requires { ⌜ (n < 32) × (length (now wanted) ≡ 128) ⌝ }
-    ensures { λ _. ⌜ RowCopied (now (positions .entry)) n 128 (now (wanted .exit)) ⌝ }
+// The flags of the first states after n + 1 transitions.
+pub fn copy_row(positions: &[u8; 4096], n: usize, states: usize, wanted: &mut [u8; 128])
+    requires { ⌜ (n < 32) × (states ≤ 128) × (length (now wanted) ≡ 128) ⌝ }
+    ensures { λ _. ⌜ RowCopied (now (positions .entry)) n states (now (wanted .exit)) ⌝ }
 {
     let row = n * 128;
     let mut q: usize = 0;
-    while q < 128 {
+    while q < states {
         wanted[q] = positions[row + q];
         q += 1;
     }

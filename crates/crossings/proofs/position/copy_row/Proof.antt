@@ -10,19 +10,19 @@ use Rattle.crossings.proofs.position.copy_row.Statement.{statement}
 use Rattle.crossings.proofs.position.copy_row.Tie as tie
 
 abbrev Inv-loop : tie.InvT-loop
-Inv-loop positions n wanted₀ row q₀ wanted q = (q ≤ 128) × RowCopied positions n q wanted
+Inv-loop positions n states wanted₀ row q₀ wanted q = (q ≤ states) × RowCopied positions n q wanted
 
 abbrev μ-loop : tie.MeasureT-loop
-μ-loop positions n wanted₀ row q₀ wanted q = 128 - q
+μ-loop positions n states wanted₀ row q₀ wanted q = states - q
 
 loop-holds : tie.Need-loop-holds Inv-loop μ-loop
-loop-holds c = (omega arith, record { size = c .pre .1; same = λ q h. absurd (omega arith) })
+loop-holds c = (omega arith, record { size = c .pre .2; same = λ q h. absurd (omega arith) })
 
 element-write-wanted : tie.Need-element-write-wanted Inv-loop μ-loop
 element-write-wanted c = omega (arith, c .before .before .loop .inv .1 .size)
 
 loop-again : tie.Need-loop-again Inv-loop μ-loop
-loop-again c = (omega arith, row-copied-more (c .before .loop-test .taken) refl (c .before .before .loop .inv .1))
+loop-again c = (omega arith, row-copied-more (omega arith) refl (c .before .before .loop .inv .1))
 
 returns : tie.Need-returns Inv-loop μ-loop
 returns c = rw (le-antisymm (c .before .loop .inv .0) (c .loop-test .left)) at (c .before .loop .inv .1)
