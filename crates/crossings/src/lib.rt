@@ -5,4 +5,5 @@ mod production;
 mod reduction;
 
 pub use crossing::crossings;
+pub use crossing::crossings_with;
 pub use reduction::lower;

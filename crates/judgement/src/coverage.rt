@@ -10,7 +10,7 @@ ghost use Rattle.judgement.specs.Coverage.{stateFails, lacksIn, Covered}
 ghost use Rattle.judgement.specs.Judgement.{lowestState};
 use crate::Judgement;
 use book::Sizes;
-use crossings::crossings;
+use crossings::crossings_with;
 use distances::from_start;
 use finder::mask_of;
 use finder::pair_fails;
@@ -71,8 +71,9 @@ pub fn cover(cells: &[u16], d: Sizes, flags: &[u8; 128], work: &mut [u16]) -> Ju
 {
     let mut rows = [0u8; 4096];
     open_rows(cells, d, &mut rows);
-    crossings(cells, d, work, &rows);
     let mut dist = [UNREACHED; 4096];
+    let mut next = [UNREACHED; 4096];
+    crossings_with(cells, d, work, &rows, &mut dist, &mut next);
     from_start(cells, d, work, &rows, &mut dist);
     lowest_lacking(cells, d, &dist, flags)
 }
