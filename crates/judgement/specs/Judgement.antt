@@ -80,9 +80,13 @@ unfoldable pub judgeRefusals : Listed → ℕ → ℕ → Sizes → List (Bool �
 judgeRefusals (refused r) work stack d = (true, r .number, r .place) ∷ []
 judgeRefusals (entries es end) work stack d = (ltb work (workCells d), 13, 0) ∷ (ltb stack 1024, 13, 0) ∷ []
 
+-- the right judgement of the list
+abbrev pub JudgedIn : List ℕ → List ℕ → Judgement → Type 0
+JudgedIn cells bytes j = (es : List Entry) × (end : ℕ) × (listIn cells bytes ≡ entries es end) × Judged (tablesOf cells) (course (tablesOf cells) bytes 0 [] es) j
+
 -- what `judge` answers and leaves in the work cells and in the stack cells: it 'leaves that many zero'
 abbrev pub Judges : List ℕ → List ℕ → List ℕ → List ℕ → Judgement × (List ℕ × List ℕ) → Type 0
 Judges cells bytes work stack =
     Concludes (admits (checked (ofCells cells)) (judgeRefusals (listIn cells bytes) (length work) (length stack))) Judgement.Refused (work, stack)
-    (λ d j. (es : List Entry) × (end : ℕ) × (listIn cells bytes ≡ entries es end) × Judged (tablesOf cells) (course (tablesOf cells) bytes 0 [] es) j)
+    (λ d. JudgedIn cells bytes)
     (λ d j. (j, (cleared d work, over (replicate 1024 0) stack)))

@@ -18,12 +18,12 @@ use Rattle.machine.specs.declared.Ending.{Ending}
 use Rattle.machine.specs.declared.Ending.the-variants.{Accepted, Error, Broken, Passed, Deep, Spinning}
 use Rattle.machine.specs.declared.Stop.{Stop}
 use Rattle.lists.specs.Entry.{sentence}
-use Rattle.lists.specs.List.{entries, listIn}
+use Rattle.lists.specs.List.{listIn}
 use Rattle.lists.specs.declared.Entry.{Entry}
 use Rattle.finder.specs.FailingLaws.{decides-one}
 use Rattle.finder.specs.Finder.{cleared}
 use Rattle.judgement.specs.CoverageLaws.{lowest-same}
-use Rattle.judgement.specs.Judgement.{runOf, isRight, stateOf, among, Course, fault, clean, course, uncovered, Judged, faulty, faultless, judgeRefusals, Judges}
+use Rattle.judgement.specs.Judgement.{runOf, isRight, stateOf, among, Course, fault, clean, course, uncovered, Judged, faulty, faultless, judgeRefusals, JudgedIn, Judges}
 use Rattle.judgement.specs.declared.Judgement.{Judgement}
 use Rattle.judgement.specs.declared.Judgement.the-variants.{Wrong, Repeat, Refused}
 
@@ -36,9 +36,6 @@ one-judgement {B} (faultless states f e x) (faultless others g k y) =
     rw same (lowest-same (uncovered f others) (uncovered g others) (B .states) 0 (λ s h. rw (decides-one (x s (omega arith)) (y s (omega arith)))))
 
 -- .. and so what `judge` answers and leaves is one
-abbrev JudgedIn : List ℕ → List ℕ → Judgement → Type 0
-JudgedIn cells bytes j = (es : List Entry) × (end : ℕ) × (listIn cells bytes ≡ entries es end) × Judged (tablesOf cells) (course (tablesOf cells) bytes 0 [] es) j
-
 judged-one : (cells bytes : List ℕ) (j k : Judgement) → JudgedIn cells bytes j → JudgedIn cells bytes k → j ≡ k
 judged-one cells bytes j k (es, end, e, x) (others, last, f, y) =
     let same : es ≡ others = cc in
