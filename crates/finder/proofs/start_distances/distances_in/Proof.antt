@@ -9,10 +9,10 @@ use Rattle.finder.proofs.start_distances.distances_in.Statement.{statem
 use Rattle.finder.proofs.start_distances.distances_in.Tie as tie
 
 crossings-with-requires : tie.Need-crossings-with-requires
-crossings-with-requires c κs = (c .pre .0, (omega (arith, c .pre .1), (c .open-rows .ensures, record { first = length-replicate {A = ℕ} 4096 (unreached plain); second = length-replicate {A = ℕ} 4096 (unreached plain) })))
+crossings-with-requires c κs = (c .before .before .before .before .before .before .before .before .before .pre .0, (omega (arith, c .before .before .before .before .before .before .before .before .before .pre .1), (c .before .before .before .before .before .open-rows .ensures, record { first = length-replicate {A = ℕ} 4096 (unreached plain); second = length-replicate {A = ℕ} 4096 (unreached plain) })))
 
 returns : tie.Need-returns
-returns c = (c .before .before .before .before .before .from-start .ensures, work-cleared (c .before .before .before .before .before .before .before .before .before .before .before .before .before .before .before .before .before .before .args .d) (c .before .before .before .before .before .before .before .before .before .before .before .crossings-with .ensures .1) (c .before .before .before .before .work-cells .ensures) (c .before .before .clear .ensures))
+returns c = (c .before .before .before .before .before .from-start .ensures, work-cleared (c .before .before .before .before .before .before .before .before .before .before .before .before .before .before .before .before .before .before .before .before .before .args .d) (c .before .before .before .before .before .before .before .before .before .before .before .crossings-with .ensures .1) (c .before .before .before .before .work-cells .ensures) (c .before .before .clear .ensures))
 
 pub distances-in-spec : {M : Type 1} → statement M
 distances-in-spec =
