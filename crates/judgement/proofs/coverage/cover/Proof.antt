@@ -8,7 +8,7 @@ use Rattle.judgement.proofs.coverage.cover.Statement.{statement}
 use Rattle.judgement.proofs.coverage.cover.Tie as tie
 
 crossings-with-requires : tie.Need-crossings-with-requires
-crossings-with-requires c κs = (c .pre .0, (c .pre .1, (c .open-rows .ensures, record { first = length-replicate {A = ℕ} 4096 (unreached plain); second = length-replicate {A = ℕ} 4096 (unreached plain) })))
+crossings-with-requires c κs = (c .before .before .before .before .before .before .before .before .pre .0, (c .before .before .before .before .before .before .before .before .pre .1, (c .before .before .before .before .open-rows .ensures, record { first = length-replicate {A = ℕ} 4096 (unreached plain); second = length-replicate {A = ℕ} 4096 (unreached plain) })))
 
 from-start-requires : tie.Need-from-start-requires
 from-start-requires c κs = search needs
@@ -20,7 +20,7 @@ same-length : tie.Need-same-length
 same-length c = search needs
 
 returns : tie.Need-returns
-returns c = (start-covered (c .before .before .before .before .before .before .before .before .before .before .before .before .before .before .before .pre .0) (c .before .before .from-start .ensures) (c .lowest-lacking .ensures), c .before .before .before .before .before .before .before .before .crossings-with .ensures .1)
+returns c = (start-covered (c .before .before .before .before .before .before .before .before .before .before .before .before .before .before .before .before .before .pre .0) (c .before .before .from-start .ensures) (c .lowest-lacking .ensures), c .before .before .before .before .before .before .before .before .crossings-with .ensures .1)
 
 pub cover-spec : {M : Type 1} → statement M
 cover-spec =
