@@ -1,3 +1,7 @@
+pub mod Total
+pub mod TotalLaws
+pub mod Slack
+pub mod SlackLaws
 pub mod Completes
 pub mod CompletesLaws
 pub mod Waiting

@@ -2,9 +2,10 @@
 mod descend;
 mod expand;
 mod settle;
+mod slack;
 
-pub use descend::search;
 pub use descend::search_with;
+pub use slack::slacks;
 
 pub enum Found {
     // How many states of the stack are kept, and the state on top of them.
