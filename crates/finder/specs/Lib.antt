@@ -6,16 +6,6 @@ pub mod RowsLaws
 pub mod MapLaws
 pub mod Reached
 pub mod ReachedLaws
-pub mod AdvanceLaws
-pub mod Still
-pub mod StillLaws
-pub mod GoalLaws
-pub mod Choice
-pub mod ChoiceLaws
-pub mod Taking
-pub mod TakingLaws
-pub mod Choosing
-pub mod ChoosingLaws
 pub mod Pair
 pub mod PairLaws
 pub mod AgreementLaws

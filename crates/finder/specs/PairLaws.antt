@@ -25,8 +25,8 @@ use Rattle.crossings.specs.Crossings.{CrossingTable}
 use Rattle.distances.specs.TableLaws.{table-closed, table-witnessed}
 use Rattle.distances.specs.Distances.{Single, GoalTable}
 use Rattle.distances.specs.SingleLaws.{single-least}
-use Rattle.finder.specs.ChoosingLaws.{OnePair, ToPair}
-use Rattle.finder.specs.Choosing.{Chose}
+use Rattle.choice.specs.ChoosingLaws.{OnePair, ToPair}
+use Rattle.choice.specs.Choosing.{Chose}
 use Rattle.finder.specs.Finder.{Answered}
 use Rattle.finder.specs.declared.Found.the-variants.{Unreached, Long as Far′, Sentence}
 use Rattle.finder.specs.Pair.{Minimum}

@@ -3,14 +3,10 @@ mod admission;
 mod failing;
 mod find_pair;
 mod least_length;
-mod lowest_symbol;
 mod prepared;
 mod reached_sets;
 mod rows;
-mod sentence;
 mod start_distances;
-mod still;
-mod taking;
 mod whole_map;
 
 pub use find_pair::find;

@@ -7,7 +7,7 @@ use Rattle.book.specs.TablesLaws.{in-range}
 use Rattle.walk.specs.Scale.{plain, unreached}
 use Rattle.distances.specs.TableLaws.{table-usable, table-closed, table-witnessed}
 use Rattle.distances.specs.SingleLaws.{single-bounded}
-use Rattle.finder.specs.ChoosingLaws.{start-stacked, start-exact, start-chose}
+use Rattle.choice.specs.ChoosingLaws.{start-stacked, start-exact, start-chose}
 use Rattle.finder.specs.PairLaws.{pair-reached, to-pair, answered-unreached, answered-long, answered-sentence}
 use borrow.Author.Needs.{needs}
 use Rattle.finder.proofs.prepared.answer.Statement.{statement}

@@ -1,0 +1,10 @@
+pub mod AdvanceLaws
+pub mod Choice
+pub mod ChoiceLaws
+pub mod Choosing
+pub mod ChoosingLaws
+pub mod GoalLaws
+pub mod Still
+pub mod StillLaws
+pub mod Taking
+pub mod TakingLaws

@@ -1,0 +1,85 @@
+// The sentence, chosen symbol by symbol.
+ghost use mathlib.Core.Path.{_≡_};
+ghost use mathlib.Core.List.{reverse};
+ghost use Prim.Native.Nat.{_+_, _*_, _≤_, _<_};
+ghost use lib.ListN.{length, take};
+ghost use Rattle.book.specs.Tables.{tablesOf};
+ghost use Rattle.walk.specs.Claims.{Closed, Witnessed};
+ghost use Rattle.walk.specs.Scale.{plain};
+ghost use Rattle.walk.specs.Cost.{Exact};
+ghost use Rattle.walk.specs.Choice.{Brings};
+ghost use Rattle.walk.specs.ChoiceLaws.{Tops};
+ghost use Rattle.layers.specs.Crossing.{claimIn, Usable};
+ghost use Rattle.layers.specs.Layer.{entryIn};
+ghost use Rattle.search.specs.Slack.{Slack};
+ghost use Rattle.search.specs.Waiting.{Spare};
+ghost use Rattle.choice.specs.Choosing.{Chose};
+ghost use Rattle.choice.specs.ChoosingLaws.{ToPair};
+ghost use Rattle.choice.specs.Taking.{Stacked};
+use crate::lowest_symbol::lowest;
+use crate::taking::take_in;
+use book::Sizes;
+
+// Writes at the front of the buffer the sentence of n symbols that is right for the pair (s, z) from a start stack, the first depth cells, bottom
+// first; its least length is n. The costs, the arrays for two layers and the events are its own while it runs, whatever they held.
+pub fn choose(
+    cells: &[u16],
+    d: Sizes,
+    table: &[u16],
+    rows: &[u8; 4096],
+    togo: &[u16; 4096],
+    slack: &[u16; 128],
+    s: usize,
+    z: usize,
+    n: usize,
+    stack: &mut [u16],
+    depth: usize,
+    costs: &mut [u16; 4096],
+    values: &mut [u16; 4096],
+    next: &mut [u16; 4096],
+    events: &mut [u16; 32768],
+    buffer: &mut [u8],
+)
+    requires { ⌜ Usable plain d (now cells) (now table) (now rows) ⌝ }
+    requires { ⌜ (z < d .t) × (n ≤ plain .limit) × (n ≤ length (now buffer)) ⌝ }
+    requires { ⌜ Closed plain (tablesOf (now cells)) (claimIn d (now table)) × Witnessed plain (tablesOf (now cells)) (claimIn d (now table)) ⌝ }
+    requires { ⌜ Stacked (d .s) (now stack) depth × (depth + 128 * n ≤ length (now stack)) ⌝ }
+    requires { ⌜ ToPair plain (tablesOf (now cells)) (claimIn d (now table)) s z (entryIn (now togo)) × Exact plain (Brings (tablesOf (now cells)) z (Tops s) (reverse (take depth (now stack)))) n ⌝ }
+    requires { ⌜ Slack (tablesOf (now cells)) (now slack) ⌝ }
+    requires { ⌜ (length (now costs) ≡ 4096) × Spare (now values) (now next) × (length (now events) ≡ 32768) ⌝ }
+    ensures { λ _. ⌜ Chose plain (λ a. a) (Brings (tablesOf (now (cells .entry))) z (Tops s) (reverse (take depth (now (stack .entry))))) n (now (buffer .entry)) (now (buffer .exit)) ⌝ }
+{
+    let mut top = depth;
+    let mut i: usize = 0;
+    while i < n {
+        let a = lowest(
+            cells,
+            d,
+            table,
+            rows,
+            togo,
+            slack,
+            &stack[..top],
+            (n - i) as u16,
+            values,
+            next,
+            events,
+        );
+        buffer[i] = a as u8;
+        top = take_in(
+            cells,
+            d,
+            table,
+            rows,
+            slack,
+            stack,
+            top,
+            a,
+            costs,
+            values,
+            next,
+            events,
+        );
+        i += 1;
+    }
+}

@@ -1,0 +1,70 @@
+// One symbol taken in: the stack right after the machine has shifted it.
+ghost use mathlib.Core.List.{reverse};
+ghost use mathlib.Core.Path.{_≡_};
+ghost use Prim.Native.Nat.{_+_, _≤_, _<_};
+ghost use lib.ListN.{length, take};
+ghost use Rattle.book.specs.Tables.{tablesOf};
+ghost use Rattle.walk.specs.Scale.{plain};
+ghost use Rattle.walk.specs.Claims.{Closed, Witnessed};
+ghost use Rattle.walk.specs.ShiftLaws.{Ready};
+ghost use Rattle.layers.specs.Crossing.{claimIn, Usable};
+ghost use Rattle.search.specs.Slack.{Slack};
+ghost use Rattle.search.specs.Waiting.{Spare};
+ghost use Rattle.choice.specs.Taking.{Stacked, Taken};
+use crate::still::still;
+use advance::FAR;
+use advance::nearest;
+use advance::push_to_shift;
+use book::Sizes;
+use search::Found;
+use search::search_with;
+
+// The stack is the first depth cells, bottom first, and comes to shift the terminal a; answers the new depth.
+pub fn take_in(
+    cells: &[u16],
+    d: Sizes,
+    table: &[u16],
+    rows: &[u8; 4096],
+    slack: &[u16; 128],
+    stack: &mut [u16],
+    depth: usize,
+    a: usize,
+    costs: &mut [u16; 4096],
+    values: &mut [u16; 4096],
+    next: &mut [u16; 4096],
+    events: &mut [u16; 32768],
+) -> usize
+    requires { ⌜ Usable plain d (now cells) (now table) (now rows) ⌝ }
+    requires { ⌜ a < d .t ⌝ }
+    requires { ⌜ Closed plain (tablesOf (now cells)) (claimIn d (now table)) × Witnessed plain (tablesOf (now cells)) (claimIn d (now table)) ⌝ }
+    requires { ⌜ Stacked (d .s) (now stack) depth × (depth + 128 ≤ length (now stack)) × Ready (tablesOf (now cells)) (reverse (take depth (now stack))) a ⌝ }
+    requires { ⌜ Slack (tablesOf (now cells)) (now slack) ⌝ }
+    requires { ⌜ (length (now costs) ≡ 4096) × Spare (now values) (now next) × (length (now events) ≡ 32768) ⌝ }
+    ensures { λ _. ⌜ (length (now (costs .exit)) ≡ 4096) × Spare (now (values .exit)) (now (next .exit)) × (length (now (events .exit)) ≡ 32768) ⌝ }
+    ensures { λ r. ⌜ Taken (tablesOf (now (cells .entry))) a (now (stack .entry)) depth (now (stack .exit)) r ⌝ }
+{
+    let states = d.s;
+    let mut to = [FAR; 128];
+    nearest(cells, d, table, rows, a, &mut to);
+    still(&to, states, a, costs);
+    match search_with(
+        cells,
+        d,
+        table,
+        rows,
+        costs,
+        slack,
+        &stack[..depth],
+        a,
+        0,
+        values,
+        next,
+        events,
+    ) {
+        Found::Nothing => depth,
+        Found::At(kept, g) => {
+            stack[kept] = g as u16;
+            push_to_shift(cells, d, table, &to, a, stack, kept + 1)
+        }
+    }
+}
