@@ -6,6 +6,7 @@ ghost use lib.ListN.{length};
 ghost use Rattle.book.specs.Tables.{tablesOf};
 ghost use Rattle.book.specs.TablesLaws.{Holds};
 ghost use Rattle.crossings.specs.Position.{positionIn, BarredAction, BarredGoto, Barred, Positions, RowCopied};
+use crate::production::longest_of_all;
 use book::Action;
 use book::Sizes;
 use book::action_at;
@@ -125,13 +126,13 @@ fn mark(cells: &[u16], d: Sizes, positions: &mut [u8; 4096], k: usize)
     positions[k] = 1;
 }
 
-// Every cell, from the last to the first.
+// Every cell, from the last that a production can reach to the first.
 pub fn mark_all(cells: &[u16], d: Sizes, positions: &mut [u8; 4096])
     requires { ⌜ Holds d (now cells) ⌝ }
     ensures { λ _. ⌜ Positions d (tablesOf (now (cells .entry))) 0 (now (positions .exit)) ⌝ }
 {
     *positions = [0; 4096];
-    let mut k: usize = 4096;
+    let mut k = longest_of_all(cells, d) * 128;
     while k > 0 {
         k -= 1;
         mark(cells, d, positions, k);
