@@ -29,9 +29,9 @@ steps-none [] e = (cc, tt)
 steps-none ((true, number, place) ∷ more) e = absurd (never (sym (steps-refused more (record { number = number; place = place })) ∙ e))
 steps-none ((false, number, place) ∷ more) e = let (same, none) = steps-none more e in (same, (refl, none))
 
-pub admitted : (found : Checked) (after : Sizes → List (Bool × ℕ × ℕ)) (d : Sizes) → admits found after ≡ Valid d → (found ≡ Valid d) × None (after d)
-admitted (Refused r) after d e = absurd (never e)
-admitted (Valid x) after d e = let (same, none) = steps-none (after x) e in (ap Valid same, rw same at none)
+pub call-admitted : (found : Checked) (after : Sizes → List (Bool × ℕ × ℕ)) (d : Sizes) → admits found after ≡ Valid d → (found ≡ Valid d) × None (after d)
+call-admitted (Refused r) after d e = absurd (never e)
+call-admitted (Valid x) after d e = let (same, none) = steps-none (after x) e in (ap Valid same, rw same at none)
 
 -- the check of a book that was checked
 pub holds-valid : {d : Sizes} {cells : List ℕ} → Holds d cells → checked (ofCells cells) ≡ Valid d

@@ -4,9 +4,9 @@ use Rattle.book.specs.Action.{actionOf}
 use Rattle.book.specs.declared.{Action.Action, Sizes.Sizes}
 
 -- the number of a refusal where a test fails, 0 where it holds
-abbrev pub unless : Bool → ℕ → ℕ
-unless true number = 0
-unless false number = number
+abbrev pub faultUnless : Bool → ℕ → ℕ
+faultUnless true number = 0
+faultUnless false number = number
 
 -- 'Form, always 1; T terminals, 1 to 32; N nonterminals, 0 to 32; S states, 1 to 128; P productions, 0 to 128'
 abbrev pub headLowest : List ℕ
@@ -21,7 +21,7 @@ headNumber i = cond (eqb i 0) 3 4
 
 -- the refusal of v as number i of these five, 0 for none
 unfoldable pub headFault : ℕ → ℕ → ℕ
-headFault i v = unless (leb (getD headLowest i 0) v && leb v (getD headHighest i 0)) (headNumber i)
+headFault i v = faultUnless (leb (getD headLowest i 0) v && leb v (getD headHighest i 0)) (headNumber i)
 
 -- 'Terminal 0 is the end mark: no state shifts it, and accept stands only under it': the actions allowed under the terminal t
 unfoldable pub allowed : Sizes → ℕ → Action → Bool
@@ -44,4 +44,4 @@ fits d i v =
 
 -- '5 a left side, length, action or goto outside its range, a shift under terminal 0, or accept under another terminal'
 unfoldable pub bodyFault : Sizes → ℕ → ℕ → ℕ
-bodyFault d i v = unless (fits d i v) 5
+bodyFault d i v = faultUnless (fits d i v) 5

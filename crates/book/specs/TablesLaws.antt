@@ -16,7 +16,7 @@ use Rattle.book.specs.Action.{actionOf}
 use Rattle.book.specs.Book.{cellAt, read, row, ofCells, bookIn, checked}
 use Rattle.book.specs.BookLaws.{book-whole, cells-row, cells-valid, checked-valid, whole-small, whole-count, whole-sizes}
 use Rattle.book.specs.IndexLaws.{index-below}
-use Rattle.book.specs.Range.{allowed, fits, headFault, bodyFault, bodyLength, unless}
+use Rattle.book.specs.Range.{allowed, fits, headFault, bodyFault, bodyLength, faultUnless}
 use Rattle.book.specs.RangeLaws.{Small}
 use Rattle.book.specs.RowLaws.{row-clean}
 use Rattle.book.specs.Tables.{Tables, sizesOf, tablesOf, actionAt, gotoAt}
@@ -45,9 +45,9 @@ valid-holds cells d e =
         → bookIn (cellAt cells) (length cells) ≡ read cells (length cells) → d ≡ sizesOf cells
     found (out, next, is, sizes) book = let same : out ≡ cells = cc in rw same at sizes
 
-unless-held : (b : Bool) (k : ℕ) → unless b (suc k) ≡ 0 → b ≡ true
-unless-held true k e = refl
-unless-held false k e = absurd (omega arith)
+fault-unless : (b : Bool) (k : ℕ) → faultUnless b (suc k) ≡ 0 → b ≡ true
+fault-unless true k e = refl
+fault-unless false k e = absurd (omega arith)
 
 -- each cell after the head is in its range
 pub cell-fits : {d : Sizes} {cells : List ℕ} → Holds d cells → (i : ℕ) → i < bodyLength d → fits d i (getD cells (5 + i) 0) ≡ true
@@ -59,7 +59,7 @@ cell-fits {d} {cells} h i l =
     let second : row (cellAt cells) (bodyFault d) (bodyLength d) 0 5 ≡ read (w .body) (length cells) = rw (same, p .after) at (w .second) in
     let q = cells-row cells (bodyFault d) (bodyLength d) 0 5 (w .body) (length cells) second (omega (arith, p .within)) in
     let there : getD (w .body) i 0 ≡ getD cells (5 + i) 0 = rw (q .part, getD-take (bodyLength d) (drop 5 cells) i 0 l, getD-drop) in
-    unless-held _ 4 (rw (zero-add, there) at (row-clean (cellAt cells) (bodyFault d) (bodyLength d) 0 5 (w .body) (length cells) second i l))
+    fault-unless _ 4 (rw (zero-add, there) at (row-clean (cellAt cells) (bodyFault d) (bodyLength d) 0 5 (w .body) (length cells) second i l))
 
 -- ---- the four kinds of cell
 module _ {d : Sizes} {cells : List ℕ} (h : Holds d cells) where

@@ -1,12 +1,9 @@
 -- Tables whose cells only fall, lowered in passes until one lowers none. Assumes nothing.
-use mathlib.Core.List.{List, [], _∷_}
+use mathlib.Core.List.{List}
 use mathlib.Core.Path.{_≡_}
 use Prim.Native.Nat.{ℕ, _+_, _≤_, _<_}
 use lib.ListN.{getD, set}
-
-unfoldable pub total : List ℕ → ℕ
-total [] = 0
-total (x ∷ xs) = x + total xs
+use Rattle.layers.specs.Total.{total}
 
 -- v is stored in cell k, if it is less: how many cells were lowered, and the cells afterwards
 pub data Stored (k v : ℕ) (old : List ℕ) : ℕ → List ℕ → Type 0 where

@@ -1,19 +1,13 @@
 -- Laws of tables whose cells only fall: no turn, one store, two passes, one turn more. Assumes nothing.
-use mathlib.Core.List.{List, [], _∷_}
+use mathlib.Core.List.{List}
 use mathlib.Core.Path.{_≡_, refl, _∙_, subst}
-use Prim.Native.Nat.{ℕ, zero, suc, _+_, _≤_, _<_, max}
+use Prim.Native.Nat.{ℕ, _+_, _≤_, _<_, max}
 use native.Mathlib.Decide.{ℕ-discrete}
-use native.Mathlib.Nat.{not-suc-le-zero, le-of-suc-le-suc, le-antisymm}
+use native.Mathlib.Nat.{le-antisymm}
 use native.Mathlib.Omega.{arith}
 use lib.ListN.{length, getD, set}
-use Rattle.crossings.specs.Falling.{total, Fallen, Pass, Each}
-
--- a store changes the sum by what it changes the cell
-total-set : (l : List ℕ) (k v : ℕ) → k < length l → total (set l k v) + getD l k 0 ≡ total l + v
-unfolding total
-total-set [] k v h = absurd (not-suc-le-zero h)
-total-set (x ∷ l) zero v h = omega arith
-total-set (x ∷ l) (suc k) v h = omega (arith, total-set l k v (le-of-suc-le-suc h))
+use Rattle.layers.specs.TotalLaws.{total-set}
+use Rattle.crossings.specs.Falling.{Fallen, Pass, Each}
 
 pub fallen-none : {l : List ℕ} → Fallen 0 l l
 fallen-none {l} = record { sum = omega arith; same = λ e. refl }

@@ -55,10 +55,10 @@ module _ (bytes : List ℕ) (l : Listed) where
       go (entries es end) f g = absurd (clash cc)
 
 -- ---- the refusals, for a book that was checked
-pub room-enough : (work stack : ℕ) (d : Sizes) {x : Sizes} → steps (Valid d) (judgeRefusals (entries [] 0) work stack d) ≡ Valid x
+pub judge-room : (work stack : ℕ) (d : Sizes) {x : Sizes} → steps (Valid d) (judgeRefusals (entries [] 0) work stack d) ≡ Valid x
     → (workCells d ≤ work) × (1024 ≤ stack)
 unfolding judgeRefusals
-room-enough work stack d e =
+judge-room work stack d e =
     let (same, (room, (depth, end))) = steps-none (judgeRefusals (entries [] 0) work stack d) e in
     (ltb-false _ _ room, ltb-false _ _ depth)
 

@@ -8,3 +8,5 @@ pub mod CrossingLaws
 pub mod Step
 pub mod StepLaws
 pub mod LengthenLaws
+pub mod Total
+pub mod TotalLaws

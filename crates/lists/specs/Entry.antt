@@ -1,12 +1,12 @@
 -- One entry of a list of sentences: which numbers are in range where, and what reading it at an offset gives. Assumes nothing.
 use Rattle.number.specs.Words.{_&&_, List, take, drop, ℕ, ltb, leb}
 use Rattle.number.specs.{Number.numberAt, declared.Number.Number}
-use Rattle.book.specs.{Book.Row, Book.admitted, Book.row, Range.unless}
+use Rattle.book.specs.{Book.Row, Book.admitted, Book.row, Range.faultUnless}
 use Rattle.lists.specs.declared.{Entry.Entry, Step.Step}
 
 -- the number of a refusal for v below least, or at the limit or above; 0 for none
 unfoldable pub outside : ℕ → ℕ → ℕ → ℕ → ℕ
-outside least limit number v = unless (leb least v && ltb v limit) number
+outside least limit number v = faultUnless (leb least v && ltb v limit) number
 
 -- '8 a sentence has over 1,000 symbols'
 abbrev pub lengthFault : ℕ → ℕ

@@ -14,7 +14,7 @@ use lib.Seq.{drop-cons}
 use Rattle.number.specs.declared.Refusal.{Refusal}
 use Rattle.book.specs.Book.{ofCells, checked}
 use Rattle.book.specs.Call.{admits}
-use Rattle.book.specs.CallLaws.{admitted}
+use Rattle.book.specs.CallLaws.{call-admitted}
 use Rattle.book.specs.Tables.{tablesOf}
 use Rattle.book.specs.declared.Checked.{Checked}
 use Rattle.book.specs.declared.Checked.the-variants.{Valid, Refused as CheckedRefused}
@@ -71,7 +71,7 @@ pub record RunAdmitted (w : List ℕ) (z room : ℕ) (found : Checked) (d : Size
 pub admitted-valid : (w : List ℕ) (z room : ℕ) (found : Checked) (d : Sizes) → admits found (runRefusals w z room) ≡ Valid d → RunAdmitted w z room found d
 unfolding runRefusals
 admitted-valid w z room found d e =
-    let (book, (few, (terminals, (lookahead, (enough, end))))) = admitted found (runRefusals w z room) d e in
+    let (book, (few, (terminals, (lookahead, (enough, end))))) = call-admitted found (runRefusals w z room) d e in
     record {
       book = book;
       few = ltb-false _ _ few;

@@ -1,5 +1,3 @@
-pub mod Total
-pub mod TotalLaws
 pub mod Slack
 pub mod SlackLaws
 pub mod Completes

@@ -6,7 +6,7 @@ use lib.ListN.{length, getD, set}
 use Rattle.book.specs.Tables.{Tables}
 use Rattle.book.specs.declared.Action.the-variants.{Shift, Reduce}
 use Rattle.walk.specs.Layers.{Leads}
-use Rattle.search.specs.Total.{total}
+use Rattle.layers.specs.Total.{total}
 
 -- the slack w of q is at most i + 32 - n for each reduction of n states that i transitions from it lead to: by the action under a ..
 pub record SlackAction (B : Tables) (slack : List ℕ) (q w a : ℕ) : Type 0 where

@@ -17,7 +17,7 @@ use Rattle.walk.specs.Scale.{Scale}
 use Rattle.walk.specs.CostLaws.{plus-left-le}
 use Rattle.walk.specs.Layers.{Leads, by-shift, by-goto, Hereditary}
 use Rattle.layers.specs.CrossingLaws.{terminals-are, states-are}
-use Rattle.search.specs.TotalLaws.{total-set}
+use Rattle.layers.specs.TotalLaws.{total-set}
 use Rattle.search.specs.Slack.{SlackAction, SlackGoto, SlackState, Slack, Pending, SlackLowered, kept, lowered, SlackPass, WantedAfter}
 
 -- ---- one action, one goto

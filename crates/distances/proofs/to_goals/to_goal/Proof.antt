@@ -7,7 +7,8 @@ use Rattle.book.specs.Tables.{tablesOf}
 use Rattle.walk.specs.Scale.{plain}
 use Rattle.layers.specs.Crossing.{claimIn}
 use Rattle.layers.specs.CrossingLaws.{terminals-are}
-use Rattle.crossings.specs.Falling.{total, Each}
+use Rattle.layers.specs.Total.{total}
+use Rattle.crossings.specs.Falling.{Each}
 use Rattle.distances.specs.Distances.{distanceIn}
 use Rattle.distances.specs.Pass.{Drawn, Marked, LeastApproach}
 use Rattle.distances.specs.PassLaws.{drawn-same, drawn-join}

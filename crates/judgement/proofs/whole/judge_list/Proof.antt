@@ -2,7 +2,7 @@
 use denote.Ref.{now}
 use mathlib.Core.Path.{sym, _∙_}
 use native.Mathlib.Omega.{arith}
-use Rattle.judgement.specs.AdmissionLaws.{accepted, accepted-standing, room-enough, judge-unroomed, judge-answered}
+use Rattle.judgement.specs.AdmissionLaws.{accepted, accepted-standing, judge-room, judge-unroomed, judge-answered}
 use borrow.Author.Needs.{needs}
 use Rattle.judgement.proofs.whole.judge_list.Statement.{statement}
 use Rattle.judgement.proofs.whole.judge_list.Tie as tie
@@ -10,14 +10,14 @@ use Rattle.judgement.proofs.whole.judge_list.Tie as tie
 judge-from-requires : tie.Need-judge-from-requires
 judge-from-requires c κs =
     let p = c .before .before .before .before .before .before .before .before .before .pre in
-    let m = room-enough _ _ _ (sym (c .before .before .before .before .admit-room .ensures) ∙ c .before .before .enum-told .given .1) in
+    let m = judge-room _ _ _ (sym (c .before .before .before .before .admit-room .ensures) ∙ c .before .before .enum-told .given .1) in
     (p .0, (accepted-standing (p .0) (accepted _ _ (p .1)), (omega (arith, m .0), m .1)))
 
 clear-requires : tie.Need-clear-requires
-clear-requires c κs = omega (arith, room-enough _ _ _ (sym (c .before .before .before .before .before .before .before .before .before .before .before .admit-room .ensures) ∙ c .before .before .before .before .before .before .before .before .before .enum-told .given .1) .0)
+clear-requires c κs = omega (arith, judge-room _ _ _ (sym (c .before .before .before .before .before .before .before .before .before .before .before .admit-room .ensures) ∙ c .before .before .before .before .before .before .before .before .before .enum-told .given .1) .0)
 
 clear-requires-2 : tie.Need-clear-requires-2
-clear-requires-2 c κs = omega (arith, room-enough _ _ _ (sym (c .before .before .before .before .before .before .before .before .before .before .before .before .before .before .before .admit-room .ensures) ∙ c .before .before .before .before .before .before .before .before .before .before .before .before .before .enum-told .given .1) .1)
+clear-requires-2 c κs = omega (arith, judge-room _ _ _ (sym (c .before .before .before .before .before .before .before .before .before .before .before .before .before .before .before .admit-room .ensures) ∙ c .before .before .before .before .before .before .before .before .before .before .before .before .before .enum-told .given .1) .1)
 
 returns : tie.Need-returns
 returns c =

@@ -2,7 +2,7 @@
 use native.Mathlib.Omega.{arith}
 use mathlib.Core.Path.{refl, sym, _∙_}
 use Rattle.book.specs.CallLaws.{steps-none, holds-valid}
-use Rattle.lines.specs.PrepareLaws.{room-enough, beyond-same}
+use Rattle.lines.specs.PrepareLaws.{listing-room, beyond-same}
 use borrow.Author.Needs.{needs}
 use Rattle.lines.proofs.opening.prepare_in.Statement.{statement}
 use Rattle.lines.proofs.opening.prepare_in.Tie as tie
@@ -11,7 +11,7 @@ returns : tie.Need-returns
 returns c = let e = sym (c .before .before .admit .ensures) ∙ c .enum-told2 .given .1 in record { ends = rw (holds-valid (c .before .before .before .before .before .pre), e, c .enum-told2 .given .1) }
 
 crossings-requires : tie.Need-crossings-requires
-crossings-requires c κs = (c .before .before .before .before .before .before .before .before .before .pre, (omega (arith, room-enough _ _ (sym (c .before .before .before .before .before .before .admit .ensures) ∙ c .before .before .before .before .enum-told .given .1)), c .before .before .open-rows .ensures))
+crossings-requires c κs = (c .before .before .before .before .before .before .before .before .before .pre, (omega (arith, listing-room _ _ (sym (c .before .before .before .before .before .before .admit .ensures) ∙ c .before .before .before .before .enum-told .given .1)), c .before .before .open-rows .ensures))
 
 returns-2 : tie.Need-returns-2
 returns-2 c =

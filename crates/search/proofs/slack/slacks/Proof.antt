@@ -6,7 +6,7 @@ use lib.ListN.{length, length-replicate}
 use Rattle.book.specs.Tables.{tablesOf}
 use Rattle.search.specs.Slack.{Slack}
 use Rattle.search.specs.SlackLaws.{slack-done}
-use Rattle.search.specs.Total.{total}
+use Rattle.layers.specs.Total.{total}
 use borrow.Author.Needs.{needs}
 use Rattle.search.proofs.slack.slacks.Statement.{statement}
 use Rattle.search.proofs.slack.slacks.Tie as tie

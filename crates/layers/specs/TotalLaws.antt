@@ -5,7 +5,7 @@ use Prim.Native.Nat.{ℕ, zero, suc, _+_, _<_}
 use native.Mathlib.Nat.{not-suc-le-zero, le-of-suc-le-suc}
 use native.Mathlib.Omega.{arith}
 use lib.ListN.{length, getD, set}
-use Rattle.search.specs.Total.{total}
+use Rattle.layers.specs.Total.{total}
 
 -- a store changes the sum by what it changes the cell
 pub total-set : (l : List ℕ) (k v : ℕ) → k < length l → total (set l k v) + getD l k 0 ≡ total l + v
