@@ -5,7 +5,6 @@
 
 #[path = "../../tests/both/mod.rs"]
 mod both;
-#[allow(dead_code)]
 #[path = "../../examples/make_book/grammar.rs"]
 mod grammar;
 #[path = "../../tests/independent/mod.rs"]
@@ -17,6 +16,7 @@ mod measure;
 #[path = "../../tests/random/mod.rs"]
 mod random;
 
+use grammar::Grammar;
 use independent::book::Book;
 use measure::{ratio, shown, Subject};
 use purlquartz::Sizes;
@@ -49,6 +49,18 @@ fn shipped(name: &str) -> Book {
     Book::from_bytes(&fs::read(file).expect("the book is shipped")).expect("a good book")
 }
 
+/// A book with sentences of up to 512 symbols: each nonterminal is the one below it, twice.
+fn doubling() -> Book {
+    let mut text = "terminals: a\n".to_string();
+    for level in (1..=9).rev() {
+        text += &format!("x{level} -> x{below} x{below}\n", below = level - 1);
+    }
+    text += "x0 -> a\n";
+    let grammar = Grammar::parse(&text).expect("a grammar");
+    let tables = lalr::build(&grammar).expect("a grammar within the limits");
+    Book::from_cells(&tables.cells).expect("a good book")
+}
+
 /// A random book where most cells are filled: much can be reached in many ways.
 fn dense(seed: u64, terminals: u16, nonterminals: u16, states: u16) -> Book {
     let taste = Taste {
@@ -74,6 +86,7 @@ fn print_books(quick: bool) {
     for name in SHIPPED {
         print_book(name, &shipped(name));
     }
+    print_book("doubling", &doubling());
     let sizes = [(4, 4, 16), (8, 8, 32), (16, 16, 64), (32, 32, 128)];
     for (terminals, nonterminals, states) in sizes {
         if !quick || states < 64 {
