@@ -9,15 +9,11 @@ use Rattle.book.specs.Tables.{Tables}
 use Rattle.walk.specs.Walk.{Walk}
 use Rattle.walk.specs.Scale.{Scale, long, unreached}
 use Rattle.walk.specs.Cost.{Attained}
-use Rattle.walk.specs.CostLaws.{plus-mono, plus-assoc, plus-bounded, zero-plus, plus-far-left, plus-left-le, cut-within, cut-beyond, plus-cut}
+use Rattle.walk.specs.CostLaws.{plus-mono, plus-assoc, plus-bounded, zero-plus, plus-far-left, cut-within, cut-beyond, plus-cut}
 use Rattle.walk.specs.Claims.{Claims, Claimed, none, shifting, crossing, Witnessed, Least, LeastWhere, Arrival, OnwardTo, Weighs}
 use Rattle.walk.specs.ClaimsLaws.{attained-shift, attained-cross, claimed-next, claimed-bounded, claimed-terminal, Start, nowhere, shift-first, goto-first, claimed-start}
 use Rattle.walk.specs.Layers.{Longer, add-shift, add-goto, from-shift, from-goto, Layer, LayerWhere, LayerWithin, cutAt, Leads, by-shift, by-goto, Hereditary, FromStart, ToGoal}
 use Rattle.walk.specs.Sum.{shiftCost, plus, cut}
-
--- a walk costs no less than its part before the last transition
-pub bound-hereditary : {σ : Scale} {B : Tables} (bound : ℕ) → Hereditary σ B (λ n q x. x ≤ bound)
-bound-hereditary {σ} bound = record { before = λ v w h e i. le-trans (plus-left-le σ v w h) i }
 
 module _ {σ : Scale} {B : Tables} {claim : Claims} where
   -- the layer of no transitions
