@@ -8,7 +8,7 @@ ghost use Rattle.layers.specs.Crossing.{claimIn, Usable};
 ghost use Rattle.layers.specs.Layer.{entryIn};
 ghost use lib.ListN.{length};
 ghost use Rattle.search.specs.Search.{Stack};
-ghost use Rattle.search.specs.Slack.{Slack};
+ghost use Rattle.search.specs.Pending.{Pends};
 ghost use Rattle.search.specs.Waiting.{Spare};
 ghost use Rattle.choice.specs.Choice.{Completing, LowestFrom};
 use book::Sizes;
@@ -22,7 +22,7 @@ fn completes(
     table: &[u16],
     rows: &[u8; 4096],
     togo: &[u16; 4096],
-    slack: &[u16; 128],
+    pending: &[u8],
     stack: &[u16],
     a: usize,
     r: u16,
@@ -33,7 +33,7 @@ fn completes(
     requires { ⌜ Usable plain d (now cells) (now table) (now rows) ⌝ }
     requires { ⌜ (a < d .t) × (r ≤ plain .limit) ⌝ }
     requires { ⌜ Stack (d .s) (now stack) ⌝ }
-    requires { ⌜ Slack (tablesOf (now cells)) (now slack) ⌝ }
+    requires { ⌜ Pends (tablesOf (now cells)) (now pending) ⌝ }
     requires { ⌜ Spare (now values) (now next) × (length (now events) ≡ 32768) ⌝ }
     ensures { λ _. ⌜ Spare (now (values .exit)) (now (next .exit)) × (length (now (events .exit)) ≡ 32768) ⌝ }
     ensures { λ b. ⌜ (b ≡ true → Completing plain (tablesOf (now (cells .entry))) (claimIn d (now (table .entry))) (entryIn (now (togo .entry))) (now (stack .entry)) r a) ⌝ }
@@ -45,7 +45,7 @@ fn completes(
         table,
         rows,
         togo,
-        slack,
+        pending,
         stack,
         a,
         r,
@@ -65,7 +65,7 @@ pub fn lowest(
     table: &[u16],
     rows: &[u8; 4096],
     togo: &[u16; 4096],
-    slack: &[u16; 128],
+    pending: &[u8],
     stack: &[u16],
     r: u16,
     values: &mut [u16; 4096],
@@ -75,7 +75,7 @@ pub fn lowest(
     requires { ⌜ Usable plain d (now cells) (now table) (now rows) ⌝ }
     requires { ⌜ r ≤ plain .limit ⌝ }
     requires { ⌜ Stack (d .s) (now stack) ⌝ }
-    requires { ⌜ Slack (tablesOf (now cells)) (now slack) ⌝ }
+    requires { ⌜ Pends (tablesOf (now cells)) (now pending) ⌝ }
     requires { ⌜ Spare (now values) (now next) × (length (now events) ≡ 32768) ⌝ }
     ensures { λ _. ⌜ Spare (now (values .exit)) (now (next .exit)) × (length (now (events .exit)) ≡ 32768) ⌝ }
     ensures { λ a. ⌜ LowestFrom (Completing plain (tablesOf (now (cells .entry))) (claimIn d (now (table .entry))) (entryIn (now (togo .entry))) (now (stack .entry)) r) 1 (d .t) a ⌝ }
@@ -89,7 +89,7 @@ pub fn lowest(
             table,
             rows,
             togo,
-            slack,
+            pending,
             stack,
             a,
             r,

@@ -11,7 +11,7 @@ ghost use Rattle.walk.specs.Choice.{Brings};
 ghost use Rattle.walk.specs.ChoiceLaws.{Tops};
 ghost use Rattle.layers.specs.Crossing.{claimIn, Usable};
 ghost use Rattle.layers.specs.Layer.{entryIn};
-ghost use Rattle.search.specs.Slack.{Slack};
+ghost use Rattle.search.specs.Pending.{Pends};
 ghost use Rattle.search.specs.Waiting.{Spare};
 ghost use Rattle.choice.specs.Choosing.{Chose};
 ghost use Rattle.choice.specs.ChoosingLaws.{ToPair};
@@ -28,7 +28,7 @@ pub fn choose(
     table: &[u16],
     rows: &[u8; 4096],
     togo: &[u16; 4096],
-    slack: &[u16; 128],
+    pending: &[u8],
     s: usize,
     z: usize,
     n: usize,
@@ -45,7 +45,7 @@ pub fn choose(
     requires { ⌜ Closed plain (tablesOf (now cells)) (claimIn d (now table)) × Witnessed plain (tablesOf (now cells)) (claimIn d (now table)) ⌝ }
     requires { ⌜ Stacked (d .s) (now stack) depth × (depth + 128 * n ≤ length (now stack)) ⌝ }
     requires { ⌜ ToPair plain (tablesOf (now cells)) (claimIn d (now table)) s z (entryIn (now togo)) × Exact plain (Brings (tablesOf (now cells)) z (Tops s) (reverse (take depth (now stack)))) n ⌝ }
-    requires { ⌜ Slack (tablesOf (now cells)) (now slack) ⌝ }
+    requires { ⌜ Pends (tablesOf (now cells)) (now pending) ⌝ }
     requires { ⌜ (length (now costs) ≡ 4096) × Spare (now values) (now next) × (length (now events) ≡ 32768) ⌝ }
     ensures { λ _. ⌜ Chose plain (λ a. a) (Brings (tablesOf (now (cells .entry))) z (Tops s) (reverse (take depth (now (stack .entry))))) n (now (buffer .entry)) (now (buffer .exit)) ⌝ }
 {
@@ -58,7 +58,7 @@ pub fn choose(
             table,
             rows,
             togo,
-            slack,
+            pending,
             &stack[..top],
             (n - i) as u16,
             values,
@@ -71,7 +71,7 @@ pub fn choose(
             d,
             table,
             rows,
-            slack,
+            pending,
             stack,
             top,
             a,

@@ -8,7 +8,7 @@ ghost use Rattle.walk.specs.Scale.{plain};
 ghost use Rattle.walk.specs.Claims.{Closed, Witnessed};
 ghost use Rattle.walk.specs.ShiftLaws.{Ready};
 ghost use Rattle.layers.specs.Crossing.{claimIn, Usable};
-ghost use Rattle.search.specs.Slack.{Slack};
+ghost use Rattle.search.specs.Pending.{Pends};
 ghost use Rattle.search.specs.Waiting.{Spare};
 ghost use Rattle.choice.specs.Taking.{Stacked, Taken};
 use crate::still::still;
@@ -25,7 +25,7 @@ pub fn take_in(
     d: Sizes,
     table: &[u16],
     rows: &[u8; 4096],
-    slack: &[u16; 128],
+    pending: &[u8],
     stack: &mut [u16],
     depth: usize,
     a: usize,
@@ -38,7 +38,7 @@ pub fn take_in(
     requires { ⌜ a < d .t ⌝ }
     requires { ⌜ Closed plain (tablesOf (now cells)) (claimIn d (now table)) × Witnessed plain (tablesOf (now cells)) (claimIn d (now table)) ⌝ }
     requires { ⌜ Stacked (d .s) (now stack) depth × (depth + 128 ≤ length (now stack)) × Ready (tablesOf (now cells)) (reverse (take depth (now stack))) a ⌝ }
-    requires { ⌜ Slack (tablesOf (now cells)) (now slack) ⌝ }
+    requires { ⌜ Pends (tablesOf (now cells)) (now pending) ⌝ }
     requires { ⌜ (length (now costs) ≡ 4096) × Spare (now values) (now next) × (length (now events) ≡ 32768) ⌝ }
     ensures { λ _. ⌜ (length (now (costs .exit)) ≡ 4096) × Spare (now (values .exit)) (now (next .exit)) × (length (now (events .exit)) ≡ 32768) ⌝ }
     ensures { λ r. ⌜ Taken (tablesOf (now (cells .entry))) a (now (stack .entry)) depth (now (stack .exit)) r ⌝ }
@@ -53,7 +53,7 @@ pub fn take_in(
         table,
         rows,
         costs,
-        slack,
+        pending,
         &stack[..depth],
         a,
         0,

@@ -1,6 +1,4 @@
 pub mod Crossings
-pub mod Position
-pub mod PositionLaws
 pub mod Falling
 pub mod FallingLaws
 pub mod Pass

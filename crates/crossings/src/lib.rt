@@ -1,6 +1,5 @@
 // The crossing table: for each goto, first terminal and following terminal the least cost of crossing it.
 mod crossing;
-mod position;
 mod production;
 mod reduction;
 

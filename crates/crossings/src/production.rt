@@ -1,29 +1,14 @@
-// The longest production of all, and the longest that can be crossed from a state.
+// The longest production that can be crossed from a state.
 ghost use mathlib.Core.Path.{_≡_};
 ghost use Prim.Native.Nat.{ℕ, suc, _≤_, _<_};
 ghost use Rattle.book.specs.Tables.{tablesOf};
 ghost use Rattle.book.specs.TablesLaws.{Holds};
-ghost use Rattle.crossings.specs.Pass.{LongestOf, LongestFrom};
+ghost use Rattle.crossings.specs.Pass.{LongestFrom};
 use book::Sizes;
 use book::goto_at;
 use book::left_side;
 use book::production_length;
 use walk::most;
-
-// The length of the longest production.
-pub fn longest_of_all(cells: &[u16], d: Sizes) -> usize
-    requires { ⌜ Holds d (now cells) ⌝ }
-    ensures { λ r. ⌜ LongestOf (tablesOf (now (cells .entry))) (d .p) r ⌝ }
-{
-    let n = d.p;
-    let mut r: usize = 0;
-    let mut p: usize = 0;
-    while p < n {
-        r = most(r, production_length(cells, d, p) as usize);
-        p += 1;
-    }
-    r
-}
 
 // At least r, 32 at most, and at least the length of production p if q has a goto for its left side.
 fn longer(cells: &[u16], d: Sizes, q: usize, p: usize, r: usize) -> usize

@@ -15,13 +15,16 @@ use Rattle.walk.specs.Claims.{Claims, none, OnwardTo, Weighs}
 use Rattle.walk.specs.ClaimsLaws.{claimed-next, claimed-append, claimed-shift, claimed-goto, onward}
 use Rattle.walk.specs.Layers.{Sooner, from-shift, from-goto}
 use Rattle.walk.specs.Sum.{plus}
+use Rattle.layers.specs.Layer.{valueIn}
+use Rattle.layers.specs.LayerLaws.{value-off}
+use Rattle.layers.specs.States.{flagIn, listedIn, Listed}
 use Rattle.layers.specs.Step.{Upto}
-use Rattle.layers.specs.StepLaws.{step-zero, step-more, step-least, step-none}
+use Rattle.layers.specs.StepLaws.{step-zero, step-more, step-least, step-none, step-listed}
 use Rattle.crossings.specs.Falling.{Stored, kept, stored, Pass}
 use Rattle.crossings.specs.FallingLaws.{fallen-none, fallen-set, fallen-join, pass-none}
 use Rattle.distances.specs.Distances.{distanceIn, Bounded}
 use Rattle.distances.specs.DistancesLaws.{distance-read, distance-same, distance-other}
-use Rattle.distances.specs.Pass.{Merged, Drawn}
+use Rattle.distances.specs.Pass.{Merged, Offer, Drawn}
 
 -- ---- entries lowered to those of a layer
 pub merged-none : {σ : Scale} {P : ℕ → ℕ → ℕ → Type 0} {l : List ℕ} → length l ≡ 4096 → ((q z w : ℕ) → P q z w → z < 32 → w < unreached σ → ⊥) → Merged σ P 0 l l
@@ -54,6 +57,19 @@ merged-more P i e p q = rw e record {
 
 pub merged-done : {σ : Scale} (P : ℕ → ℕ → ℕ → ℕ → Type 0) {i n k : ℕ} {a b : List ℕ} → i ≤ k → k ≤ i → Merged σ (Upto P i) n a b → Merged σ (Upto P k) n a b
 merged-done {σ} P {n} {a} {b} h g p = subst (λ (j : ℕ). Merged σ (Upto P j) n a b) (le-antisymm h g) p
+
+-- by the list of the states that are on
+pub merged-listed : {σ : Scale} {s t n : ℕ} (values flags : List ℕ) {a b : List ℕ} → Listed s flags → Merged σ (Upto (λ i. Upto (Offer (valueIn σ values flags) (listedIn flags i)) t) (getD flags 0 0)) n a b
+    → Merged σ (Upto (λ q. Upto (Offer (valueIn σ values flags) q) t) s) n a b
+merged-listed {σ} {s} {t} values flags l m = record {
+  size = m .size;
+  step = step-listed (listedIn flags) (l .below) (λ j q z w hj (k, hk, (i, e, ew)) h u. at j k (omega arith) (ℕ-discrete (flagIn flags j) 0)) (m .step);
+  fallen = m .fallen;
+}
+  where
+    at : (j k : ℕ) → valueIn σ values flags j k < unreached σ → Dec (flagIn flags j ≡ 0) → (i : ℕ) × (i < getD flags 0 0) × (listedIn flags i ≡ j)
+    at j k u (yes e) = absurd (omega (arith, value-off σ values flags j k e))
+    at j k u (no n) = let f = l .every j n in (f .index, f .before, f .same)
 
 -- ---- distances drawn from older ones
 ahead : (σ : Scale) (v w : ℕ) → w ≤ unreached σ → plus σ v w ≡ plus σ (plus σ v 0) w

@@ -3,7 +3,7 @@ use mathlib.Core.List.{List}
 use mathlib.Core.Logic.{_⊎_, inl, inr, ⊎-elim}
 use mathlib.Core.Path.{_≡_, refl, sym, _∙_}
 use Prim.Native.Nat.{ℕ, suc, _≤_, _<_}
-use native.Mathlib.Decide.{decLt}
+use native.Mathlib.Decide.{ℕ-discrete, decLt}
 use native.Mathlib.Omega.{arith}
 use lib.ListN.{getD, replicate, getD-replicate}
 use Rattle.book.specs.Tables.{Tables, tablesOf}
@@ -11,17 +11,18 @@ use Rattle.book.specs.TablesLaws.{Holds, in-range, goto-some}
 use Rattle.book.specs.declared.Action.the-variants.{Shift}
 use Rattle.book.specs.declared.Sizes.{Sizes}
 use Rattle.walk.specs.Scale.{Scale, unreached}
-use Rattle.walk.specs.CostLaws.{plus-far-left, plus-far-right}
+use Rattle.walk.specs.CostLaws.{plus-far-left, plus-far-right, cut-unreached}
 use Rattle.walk.specs.Claims.{Claims}
-use Rattle.walk.specs.Layers.{Longer, add-shift, add-goto}
+use Rattle.walk.specs.Layers.{Longer, add-shift, add-goto, cutAt}
 use Rattle.walk.specs.Sum.{shiftCost, plus}
 use Rattle.layers.specs.Layer.{entryIn, valueIn, Wanted, Lengthened, LengthenedTo}
-use Rattle.layers.specs.LayerLaws.{TurnedOn}
+use Rattle.layers.specs.LayerLaws.{TurnedOn, value-off}
+use Rattle.layers.specs.States.{flagIn, listedIn, Listed}
 use Rattle.layers.specs.Crossing.{crossingRow, claimIn}
 use Rattle.layers.specs.CrossingLaws.{terminals-are, states-are}
 use Rattle.layers.specs.Opening.{rowIn, Skips}
-use Rattle.layers.specs.Step.{TableStep, Upto, Level, Relaxed, ByShift, ByGoto, Leaves, LeavesState}
-use Rattle.layers.specs.StepLaws.{step-none, step-as, step-on, step-from}
+use Rattle.layers.specs.Step.{TableStep, Upto, Level, Relaxed, ByShift, Goes, Leaves, LeavesState}
+use Rattle.layers.specs.StepLaws.{step-none, step-as, step-on, step-from, step-listed}
 
 module _ (σ : Scale) (d : Sizes) (want : List ℕ) (B : Tables) (claim : Claims) where
   -- from an unreached entry nothing is reached
@@ -34,8 +35,15 @@ module _ (σ : Scale) (d : Sizes) (want : List ℕ) (B : Tables) (claim : Claims
   pub step-far : {q₁ b v : ℕ} {L : ℕ → ℕ → ℕ} → unreached σ ≤ v → TableStep σ (Leaves σ d want B claim q₁ b v) L L
   step-far {q₁} {b} {v} h = step-none (λ q z w x l u. leaves-far q₁ b v q z w h x u)
 
-  pub lengthen-off : {q₁ : ℕ} (L : ℕ → ℕ → ℕ) {K : ℕ → ℕ → ℕ} → ((b : ℕ) → L q₁ b ≡ unreached σ) → TableStep σ (LeavesState σ d want B claim L q₁) K K
-  lengthen-off {q₁} L off = step-none (λ q z w (b, h, x) l u. leaves-far q₁ b (L q₁ b) q z w (omega (arith, off b)) x u)
+  -- nor from a state that is off, so that a pass by the list of the states that are on is one over every state
+  pub leaves-listed : {K L : ℕ → ℕ → ℕ} (bound : ℕ) (from on : List ℕ) → Listed (d .s) on
+      → TableStep σ (Upto (λ i. LeavesState σ d want B claim (cutAt σ bound (valueIn σ from on)) (listedIn on i)) (getD on 0 0)) K L
+      → TableStep σ (Upto (LeavesState σ d want B claim (cutAt σ bound (valueIn σ from on))) (d .s)) K L
+  leaves-listed bound from on l = step-listed (listedIn on) (l .below) (λ j q z w hj (b, hb, x) h u. at (ℕ-discrete (flagIn on j) 0) b x u)
+    where
+      at : {j q z w : ℕ} → Dec (flagIn on j ≡ 0) → (b : ℕ) → Leaves σ d want B claim j b (cutAt σ bound (valueIn σ from on) j b) q z w → w < unreached σ → (i : ℕ) × (i < getD on 0 0) × (listedIn on i ≡ j)
+      at {j} {q} {z} {w} (yes e) b x u = absurd (leaves-far j b _ q z w (rw (value-off σ from on j b e, cut-unreached σ bound) (omega arith)) x u)
+      at {j} (no n) b x u = let f = l .every j n in (f .index, f .before, f .same)
 
 module _ {σ : Scale} {d : Sizes} {cells want : List ℕ} (h : Holds d cells) where
   -- nor from a row that can be passed over
@@ -62,22 +70,6 @@ module _ {σ : Scale} {d : Sizes} {cells want : List ℕ} (h : Holds d cells) wh
 
   pub step-shift-unwanted : (q a v : ℕ) {s : ℕ} {L : ℕ → ℕ → ℕ} → tablesOf cells .act q a ≡ Shift s → getD want s 0 ≡ 0 → TableStep σ (ByShift σ d want (tablesOf cells) q a v) L L
   step-shift-unwanted q a v {s} e k = step-none (λ q′ z w (f, hz, ew, x) l u. let i : q′ ≡ s = cc in x .on (rw i k))
-
-  -- .. and so does a goto, by the row of the crossing table
-  pub step-goto : (q a v X : ℕ) {g start : ℕ} (table old flags on-values on-flags new : List ℕ) → tablesOf cells .goto q X ≡ suc g → start ≡ crossingRow d q X a → Wanted want g → TurnedOn σ g old flags on-values on-flags
-      → TableStep σ (Upto (Relaxed σ g table start v) (d .t)) (entryIn on-values) (entryIn new)
-      → TableStep σ (ByGoto σ d want (tablesOf cells) (claimIn d table) q a v X) (valueIn σ old flags) (valueIn σ new on-flags)
-  unfolding claimIn
-  step-goto q a v X {g} {start} table old flags on-values on-flags new e i u on p = step-from (on .same) (step-as
-      (λ q′ z w (j, hj, (eq, ez, ew)). (rw eq e, rw ez hj, rw (ez, ← i) ew, rw eq u))
-      (λ q′ z w (e′, hz, ew, k). (z, hz, (omega arith, refl, rw i ew)))
-      (step-on on-values new on-flags g (on .on) (λ q′ z w (j, hj, eqs). eqs .0) p))
-
-  pub step-no-goto : (claim : Claims) (q a v X : ℕ) {L : ℕ → ℕ → ℕ} → tablesOf cells .goto q X ≡ 0 → TableStep σ (ByGoto σ d want (tablesOf cells) claim q a v X) L L
-  step-no-goto claim q a v X e = step-none (λ q′ z w x l u. omega (arith, x .0))
-
-  pub step-goto-unwanted : (claim : Claims) (q a v X : ℕ) {g : ℕ} {L : ℕ → ℕ → ℕ} → tablesOf cells .goto q X ≡ suc g → getD want g 0 ≡ 0 → TableStep σ (ByGoto σ d want (tablesOf cells) claim q a v X) L L
-  step-goto-unwanted claim q a v X {g} e k = step-none (λ q′ z w (f, hz, ew, x) l u. let i : q′ ≡ g = omega arith in x .on (rw i k))
 
   -- from every state, over a layer that was unreached everywhere
   pub lengthened : (claim : Claims) (L : ℕ → ℕ → ℕ) {K L′ : ℕ → ℕ → ℕ} → ((q z : ℕ) → K q z ≡ unreached σ) → TableStep σ (Upto (LeavesState σ d want (tablesOf cells) claim L) (d .s)) K L′
@@ -111,6 +103,16 @@ module _ {σ : Scale} {d : Sizes} {cells want : List ℕ} (h : Holds d cells) wh
           (λ (e, hz, ex, k). rw ex (add-shift z (terminal hb) e (terminal hz)))
           (λ (X, hX, (g, hz, ex, k)). rw ex (add-goto X b z (terminal hb) g (terminal hz)))
           c
+
+-- .. and so does a goto, by the row of the crossing table
+pub step-goto : {σ : Scale} (d : Sizes) (cells : List ℕ) (q a v X : ℕ) {g start : ℕ} (table old flags on-values on-flags new : List ℕ) → tablesOf cells .goto q X ≡ suc g → start ≡ crossingRow d q X a → TurnedOn σ g old flags on-values on-flags
+    → TableStep σ (Upto (Relaxed σ g table start v) (d .t)) (entryIn on-values) (entryIn new)
+    → TableStep σ (Goes σ d (tablesOf cells) (claimIn d table) q a v X) (valueIn σ old flags) (valueIn σ new on-flags)
+unfolding claimIn
+step-goto d cells q a v X {g} {start} table old flags on-values on-flags new e i on p = step-from (on .same) (step-as
+    (λ q′ z w (j, hj, (eq, ez, ew)). (rw eq e, rw ez hj, rw (ez, ← i) ew))
+    (λ q′ z w (e′, hz, ew). (z, hz, (omega arith, refl, rw i ew)))
+    (step-on on-values new on-flags g (on .on) (λ q′ z w (j, hj, eqs). eqs .0) p))
 
 module _ {σ : Scale} {d : Sizes} {cells : List ℕ} (h : Holds d cells) where
   -- transitions lead to states of the book

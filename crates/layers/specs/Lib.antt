@@ -1,10 +1,14 @@
 pub mod ActionLaws
+pub mod GotoList
+pub mod GotoListLaws
 pub mod Layer
 pub mod LayerLaws
 pub mod Opening
 pub mod OpeningLaws
 pub mod Crossing
 pub mod CrossingLaws
+pub mod States
+pub mod StatesLaws
 pub mod Step
 pub mod StepLaws
 pub mod LengthenLaws

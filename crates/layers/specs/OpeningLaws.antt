@@ -31,8 +31,8 @@ first-more {d} {B} {k} {v} {rows} h f last = record { size = length-set rows k v
     unopened j l e (yes i) = rw i (last (sym (getD-set-same rows k v 0 (omega (arith, f .size))) ∙ rw i at e))
     unopened j l e (no i) = f .unopened j (omega arith) (sym (getD-set-other rows k j v 0 i) ∙ e)
 
--- every cell is done
-pub all-rows : {d : Sizes} {B : Tables} {k : ℕ} {rows : List ℕ} → Small d → 4096 ≤ k → FirstRows d B k rows → OpenRows d B rows
+-- every cell of a state of the book is done
+pub all-rows : {d : Sizes} {B : Tables} {k : ℕ} {rows : List ℕ} → Small d → d .s * 32 ≤ k → FirstRows d B k rows → OpenRows d B rows
 all-rows {d} {B} {k} {rows} s l f = record { unopened = λ {q} {a} hq ha e. unopened q a hq ha e }
   where
     unopened : (q a : ℕ) → q < d .s → a < d .t → rowIn rows q a ≡ 0 → ¬ Opens B q a

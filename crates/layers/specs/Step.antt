@@ -30,7 +30,11 @@ Level g v j q z w = (q ≡ g) × (z ≡ j) × (w ≡ v)
 abbrev pub Relaxed : Scale → ℕ → List ℕ → ℕ → ℕ → ℕ → ℕ → ℕ → ℕ → Type 0
 Relaxed σ g row start v j q z w = (q ≡ g) × (z ≡ j) × (w ≡ plus σ v (getD row (start + j) 0))
 
--- from (q₁, b), reached at the cost v, to a wanted state: by the shift of b, and by the goto under X
+-- from (q₁, b), reached at the cost v, by the goto under X
+abbrev pub Goes : Scale → Sizes → Tables → Claims → ℕ → ℕ → ℕ → ℕ → ℕ → ℕ → ℕ → Type 0
+Goes σ d B claim q₁ b v X q z w = (B .goto q₁ X ≡ suc q) × (z < d .t) × (w ≡ plus σ v (claim q₁ X b z))
+
+-- .. to a wanted state: by the shift of b, and by the goto under X
 abbrev pub ByShift : Scale → Sizes → List ℕ → Tables → ℕ → ℕ → ℕ → ℕ → ℕ → ℕ → Type 0
 ByShift σ d want B q₁ b v q z w = (B .act q₁ b ≡ Shift q) × (z < d .t) × (w ≡ plus σ v (shiftCost σ b)) × Wanted want q
 

@@ -1,12 +1,16 @@
 // Layers: the least costs to stand at each state and next terminal after a number of transitions.
+mod goto_list;
 mod opening;
 mod row;
+mod states;
 mod transition;
 
 pub use opening::open_rows;
 pub use row::begin;
 pub use row::level;
-pub use row::turn_on;
+pub use states::all_on;
+pub use states::count_on;
+pub use states::state_on;
 pub use transition::crossing_row;
 pub use transition::lengthen;
 pub use transition::lengthen_within;

@@ -49,8 +49,9 @@ pub fn open_rows(cells: &[u16], d: Sizes, rows: &mut [u8; 4096])
     ensures { λ _. ⌜ OpenRows d (tablesOf (now (cells .entry))) (now (rows .exit)) ⌝ }
 {
     *rows = [0; 4096];
+    let end = d.s * 32;
     let mut k: usize = 0;
-    while k < 4096 {
+    while k < end {
         rows[k] = flag(cells, d, k);
         k += 1;
     }

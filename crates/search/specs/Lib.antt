@@ -1,5 +1,4 @@
-pub mod Slack
-pub mod SlackLaws
+pub mod Pending
 pub mod Completes
 pub mod CompletesLaws
 pub mod Waiting

@@ -2,10 +2,8 @@
 mod descend;
 mod expand;
 mod settle;
-mod slack;
 
 pub use descend::search_with;
-pub use slack::slacks;
 
 pub enum Found {
     // How many states of the stack are kept, and the state on top of them.

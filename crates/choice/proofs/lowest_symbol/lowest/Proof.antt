@@ -14,16 +14,16 @@ use Rattle.choice.proofs.lowest_symbol.lowest.Statement.{statement}
 use Rattle.choice.proofs.lowest_symbol.lowest.Tie as tie
 
 abbrev Inv-loop : tie.InvT-loop
-Inv-loop cells d table rows togo slack stack r values₀ next₀ events₀ t x₀ values next events x = (Spare values next × (length events ≡ 32768)) × PassedOver (Completing plain (tablesOf cells) (claimIn d table) (entryIn togo) stack r) 1 x
+Inv-loop cells d table rows togo pending stack r values₀ next₀ events₀ t x₀ values next events x = (Spare values next × (length events ≡ 32768)) × PassedOver (Completing plain (tablesOf cells) (claimIn d table) (entryIn togo) stack r) 1 x
 
 abbrev μ-loop : tie.MeasureT-loop
-μ-loop cells d table rows togo slack stack r values₀ next₀ events₀ t x₀ values next events x = t - x
+μ-loop cells d table rows togo pending stack r values₀ next₀ events₀ t x₀ values next events x = t - x
 
 loop-holds : tie.Need-loop-holds Inv-loop μ-loop
-loop-holds c = (c .before .before .before .pre .1 .1 .1 .1, passed-over-none)
+loop-holds c = (c .before .before .before .before .pre .1 .1 .1 .1, passed-over-none)
 
 completes-requires : tie.Need-completes-requires Inv-loop μ-loop
-completes-requires c κs = let p = c .before .before .before .before .before .before .before .before .pre in (p .0, ((c .before .before .before .loop-test .taken, p .1 .0), (p .1 .1 .0, (p .1 .1 .1 .0, c .before .before .before .before .loop .inv .0))))
+completes-requires c κs = let p = c .before .before .before .before .before .before .before .before .before .pre in (p .0, ((c .before .before .before .loop-test .taken, p .1 .0), (p .1 .1 .0, (p .1 .1 .1 .0, c .before .before .before .before .loop .inv .0))))
 
 returns : tie.Need-returns Inv-loop μ-loop
 returns c = let f = c .before .completes .ensures in (f .0, passed-found _ (c .before .before .before .before .before .before .loop .inv .1) (f .1 .0 (c .if1 .taken)))

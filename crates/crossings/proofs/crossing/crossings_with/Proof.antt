@@ -50,4 +50,4 @@ returns c = (table-exact (c .before .loop .inv .0) (c .before .loop .inv .2 (c .
 
 pub crossings-with-spec : {M : Type 1} → statement M
 crossings-with-spec =
-    tie.close (tie.spec Inv-loop μ-loop mul-fill mul-fill-2 mul-fill-3 (λ c κs. search needs) (λ c κs. search needs) loop-holds pass-requires loop-less loop-again same-length returns)
+    tie.close (tie.spec Inv-loop μ-loop mul-fill mul-fill-2 mul-fill-3 (λ c κs. search needs) (λ c κs. search needs) loop-holds (λ c. search needs) pass-requires loop-less loop-again same-length returns)

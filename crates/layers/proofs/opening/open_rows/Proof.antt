@@ -9,10 +9,10 @@ use Rattle.layers.proofs.opening.open_rows.Statement.{statement}
 use Rattle.layers.proofs.opening.open_rows.Tie as tie
 
 abbrev Inv-loop : tie.InvT-loop
-Inv-loop cells d rows₀ k₀ rows k = (k ≤ 4096) × FirstRows d (tablesOf cells) k rows
+Inv-loop cells d rows₀ end k₀ rows k = (k ≤ end) × FirstRows d (tablesOf cells) k rows
 
 abbrev μ-loop : tie.MeasureT-loop
-μ-loop cells d rows₀ k₀ rows k = 4096 - k
+μ-loop cells d rows₀ end k₀ rows k = end - k
 
 loop-holds : tie.Need-loop-holds Inv-loop μ-loop
 loop-holds c = (omega arith, record { size = length-replicate {A = ℕ} 4096 0; unopened = λ j l e. absurd (omega arith) })
@@ -24,9 +24,9 @@ loop-again : tie.Need-loop-again Inv-loop μ-loop
 loop-again c = (omega arith, first-more (omega arith) (c .before .before .loop .inv .1) (c .flag .ensures))
 
 returns : tie.Need-returns Inv-loop μ-loop
-returns c = all-rows (c .before .before .before .before .pre .small) (c .loop-test .left) (c .before .loop .inv .1)
+returns c = all-rows (c .before .before .before .before .before .pre .small) (c .loop-test .left) (c .before .loop .inv .1)
 
 pub open-rows-spec : {M : Type 1} → statement M
 open-rows-spec =
     tie.close
-    (tie.spec Inv-loop μ-loop loop-holds (λ c κs. search needs) element-write-rows (λ c. search needs) (λ c. search needs) loop-again returns)
+    (tie.spec Inv-loop μ-loop (λ c. search needs) loop-holds (λ c κs. search needs) element-write-rows (λ c. search needs) (λ c. search needs) loop-again returns)
