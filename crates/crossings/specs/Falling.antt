@@ -21,6 +21,11 @@ pub record Pass (K : List ℕ → List ℕ → Type 0) (D : List ℕ → Type 0)
   pub fallen : Fallen n old new
   pub done : n ≡ 0 → D new
 
+-- passes that keep K lowered cells, or none
+pub record Sunk (K : List ℕ → List ℕ → Type 0) (old new : List ℕ) : Type 0 where
+  pub keeps : K old new
+  pub sum : total new ≤ total old
+
 -- .. in each of the turns below i
 abbrev pub Each : (ℕ → List ℕ → Type 0) → ℕ → List ℕ → Type 0
 Each D i table = (j : ℕ) → j < i → D j table

@@ -7,7 +7,7 @@ use native.Mathlib.Nat.{le-antisymm}
 use native.Mathlib.Omega.{arith}
 use lib.ListN.{length, getD, set}
 use Rattle.layers.specs.TotalLaws.{total-set}
-use Rattle.crossings.specs.Falling.{Fallen, Pass, Each}
+use Rattle.crossings.specs.Falling.{Fallen, Pass, Sunk, Each}
 
 pub fallen-none : {l : List ℕ} → Fallen 0 l l
 fallen-none {l} = record { sum = omega arith; same = λ e. refl }
@@ -40,6 +40,17 @@ module _ {K : List ℕ → List ℕ → Type 0} where
         let z : n ≡ 0 = omega (arith, e) in
         let y : r ≡ 0 = omega (arith, e) in
         f z y (q .fallen .same y) (p .done z) (q .done y);
+  }
+
+  -- what is lowered after a pass that lowered some
+  pub sunk-more : {D : List ℕ → Type 0} {n : ℕ} {a b c : List ℕ} → (K a b → K b c → K a c) → Sunk K a b → Pass K D n b c → Sunk K a c
+  sunk-more join s p = record { keeps = join (s .keeps) (p .keeps); sum = omega (arith, s .sum, p .fallen .sum) }
+
+  pub pass-sunk : {D : List ℕ → Type 0} {n : ℕ} {a b c : List ℕ} → (K a b → K b c → K a c) → ¬ (n ≡ 0) → Pass K D n a b → Sunk K b c → Pass K D n a c
+  pass-sunk join some p s = record {
+    keeps = join (p .keeps) (s .keeps);
+    fallen = record { sum = omega (arith, p .fallen .sum, s .sum); same = λ e. absurd (some e) };
+    done = λ e. absurd (some e);
   }
 
   -- one turn more
