@@ -19,7 +19,7 @@ use Rattle.layers.specs.Layer.{valueIn}
 use Rattle.layers.specs.LayerLaws.{value-off}
 use Rattle.layers.specs.States.{flagIn, listedIn, Listed}
 use Rattle.layers.specs.Step.{Upto}
-use Rattle.layers.specs.StepLaws.{step-zero, step-more, step-least, step-none, step-listed}
+use Rattle.layers.specs.StepLaws.{step-zero, step-more, step-least, step-listed}
 use Rattle.crossings.specs.Falling.{Stored, kept, stored, Pass}
 use Rattle.crossings.specs.FallingLaws.{fallen-none, fallen-set, fallen-join, pass-none}
 use Rattle.distances.specs.Distances.{distanceIn, Bounded}
@@ -27,9 +27,6 @@ use Rattle.distances.specs.DistancesLaws.{distance-read, distance-same, 
 use Rattle.distances.specs.Pass.{Merged, Offer, Drawn}
 
 -- ---- entries lowered to those of a layer
-pub merged-none : {σ : Scale} {P : ℕ → ℕ → ℕ → Type 0} {l : List ℕ} → length l ≡ 4096 → ((q z w : ℕ) → P q z w → z < 32 → w < unreached σ → ⊥) → Merged σ P 0 l l
-merged-none h f = record { size = h; step = step-none f; fallen = fallen-none }
-
 pub merged-zero : {σ : Scale} {P : ℕ → ℕ → ℕ → ℕ → Type 0} {l : List ℕ} → length l ≡ 4096 → Merged σ (Upto P 0) 0 l l
 merged-zero h = record { size = h; step = step-zero; fallen = fallen-none }
 

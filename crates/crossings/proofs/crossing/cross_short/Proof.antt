@@ -9,7 +9,6 @@ use Rattle.crossings.specs.FallingLaws.{sunk-more}
 use Rattle.crossings.specs.Pass.{TableKept, Scratch}
 use Rattle.crossings.specs.PassLaws.{beyond-none, kept-join}
 use Rattle.crossings.specs.CrossingsLaws.{reached-begun}
-use borrow.Author.Needs.{needs}
 use Rattle.crossings.proofs.crossing.cross_short.Statement.{statement}
 use Rattle.crossings.proofs.crossing.cross_short.Tie as tie
 

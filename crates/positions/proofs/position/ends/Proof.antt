@@ -2,7 +2,6 @@
 use borrow.Author.Tests.{eqb-false, ltb-false}
 use Prim.Native.Nat.{_≤_}
 use native.Mathlib.Omega.{arith}
-use borrow.Author.Needs.{needs}
 use Rattle.positions.proofs.position.ends.Statement.{statement}
 use Rattle.positions.proofs.position.ends.Tie as tie
 
