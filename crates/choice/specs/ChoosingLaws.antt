@@ -23,7 +23,7 @@ use Rattle.walk.specs.AnswerLaws.{best-map}
 use Rattle.walk.specs.ShiftLaws.{Ready}
 use Rattle.walk.specs.Choice.{Chosen, AfterFrom, Onwards, WithinOf, Brings, LandsIn}
 use Rattle.walk.specs.ChoiceLaws.{Tops, at, chosen-none, choose, choose-some, choose-ready, choose-terminal, choose-weight, best-chosen, after-more, onwards-map, brings-onwards}
-use Rattle.search.specs.Completes.{Completes}
+use Rattle.waiting.specs.Completes.{Completes}
 use Rattle.choice.specs.Choice.{Completing, LowestFrom}
 use Rattle.choice.specs.Choosing.{Choosing, Chose}
 use Rattle.choice.specs.GoalLaws.{completes-within}

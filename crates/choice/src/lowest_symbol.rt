@@ -6,10 +6,9 @@ ghost use Rattle.book.specs.Tables.{tablesOf};
 ghost use Rattle.walk.specs.Scale.{plain};
 ghost use Rattle.layers.specs.Crossing.{claimIn, Usable};
 ghost use Rattle.layers.specs.Layer.{entryIn};
-ghost use lib.ListN.{length};
 ghost use Rattle.search.specs.Search.{Stack};
-ghost use Rattle.search.specs.Pending.{Pends};
-ghost use Rattle.search.specs.Waiting.{Spare};
+ghost use Rattle.waiting.specs.Pending.{Pends};
+ghost use Rattle.search.specs.Settle.{SearchRoom};
 ghost use Rattle.choice.specs.Choice.{Completing, LowestFrom};
 use book::Sizes;
 use search::Found;
@@ -27,15 +26,19 @@ fn completes(
     a: usize,
     r: u16,
     values: &mut [u16; 4096],
+    on: &mut [u8; 257],
     next: &mut [u16; 4096],
+    next_on: &mut [u8; 257],
     events: &mut [u16; 32768],
+    flags: &mut [u16; 1056],
+    done: &mut [u16; 1024],
 ) -> bool
     requires { ⌜ Usable plain d (now cells) (now table) (now rows) ⌝ }
     requires { ⌜ (a < d .t) × (r ≤ plain .limit) ⌝ }
     requires { ⌜ Stack (d .s) (now stack) ⌝ }
     requires { ⌜ Pends (tablesOf (now cells)) (now pending) ⌝ }
-    requires { ⌜ Spare (now values) (now next) × (length (now events) ≡ 32768) ⌝ }
-    ensures { λ _. ⌜ Spare (now (values .exit)) (now (next .exit)) × (length (now (events .exit)) ≡ 32768) ⌝ }
+    requires { ⌜ SearchRoom (now values) (now next) (now events) (now flags) (now done) ⌝ }
+    ensures { λ _. ⌜ SearchRoom (now (values .exit)) (now (next .exit)) (now (events .exit)) (now (flags .exit)) (now (done .exit)) ⌝ }
     ensures { λ b. ⌜ (b ≡ true → Completing plain (tablesOf (now (cells .entry))) (claimIn d (now (table .entry))) (entryIn (now (togo .entry))) (now (stack .entry)) r a) ⌝ }
     ensures { λ b. ⌜ (b ≡ false → Completing plain (tablesOf (now (cells .entry))) (claimIn d (now (table .entry))) (entryIn (now (togo .entry))) (now (stack .entry)) r a → ⊥) ⌝ }
 {
@@ -50,8 +53,12 @@ fn completes(
         a,
         r,
         values,
+        on,
         next,
+        next_on,
         events,
+        flags,
+        done,
     ) {
         Found::At(_, _) => true,
         Found::Nothing => false,
@@ -69,15 +76,19 @@ pub fn lowest(
     stack: &[u16],
     r: u16,
     values: &mut [u16; 4096],
+    on: &mut [u8; 257],
     next: &mut [u16; 4096],
+    next_on: &mut [u8; 257],
     events: &mut [u16; 32768],
+    flags: &mut [u16; 1056],
+    done: &mut [u16; 1024],
 ) -> usize
     requires { ⌜ Usable plain d (now cells) (now table) (now rows) ⌝ }
     requires { ⌜ r ≤ plain .limit ⌝ }
     requires { ⌜ Stack (d .s) (now stack) ⌝ }
     requires { ⌜ Pends (tablesOf (now cells)) (now pending) ⌝ }
-    requires { ⌜ Spare (now values) (now next) × (length (now events) ≡ 32768) ⌝ }
-    ensures { λ _. ⌜ Spare (now (values .exit)) (now (next .exit)) × (length (now (events .exit)) ≡ 32768) ⌝ }
+    requires { ⌜ SearchRoom (now values) (now next) (now events) (now flags) (now done) ⌝ }
+    ensures { λ _. ⌜ SearchRoom (now (values .exit)) (now (next .exit)) (now (events .exit)) (now (flags .exit)) (now (done .exit)) ⌝ }
     ensures { λ a. ⌜ LowestFrom (Completing plain (tablesOf (now (cells .entry))) (claimIn d (now (table .entry))) (entryIn (now (togo .entry))) (now (stack .entry)) r) 1 (d .t) a ⌝ }
 {
     let t = d.t;
@@ -94,8 +105,12 @@ pub fn lowest(
             a,
             r,
             values,
+            on,
             next,
+            next_on,
             events,
+            flags,
+            done,
         ) {
             return a;
         }

@@ -11,8 +11,8 @@ ghost use Rattle.walk.specs.Choice.{Brings};
 ghost use Rattle.walk.specs.ChoiceLaws.{Tops};
 ghost use Rattle.layers.specs.Crossing.{claimIn, Usable};
 ghost use Rattle.layers.specs.Layer.{entryIn};
-ghost use Rattle.search.specs.Pending.{Pends};
-ghost use Rattle.search.specs.Waiting.{Spare};
+ghost use Rattle.waiting.specs.Pending.{Pends};
+ghost use Rattle.search.specs.Settle.{SearchRoom};
 ghost use Rattle.choice.specs.Choosing.{Chose};
 ghost use Rattle.choice.specs.ChoosingLaws.{ToPair};
 ghost use Rattle.choice.specs.Taking.{Stacked};
@@ -21,7 +21,7 @@ use crate::taking::take_in;
 use book::Sizes;
 
 // Writes at the front of the buffer the sentence of n symbols that is right for the pair (s, z) from a start stack, the first depth cells, bottom
-// first; its least length is n. The costs, the arrays for two layers and the events are its own while it runs, whatever they held.
+// first; its least length is n. The costs and the arrays that the search works in are its own while it runs, whatever they held.
 pub fn choose(
     cells: &[u16],
     d: Sizes,
@@ -36,8 +36,12 @@ pub fn choose(
     depth: usize,
     costs: &mut [u16; 4096],
     values: &mut [u16; 4096],
+    on: &mut [u8; 257],
     next: &mut [u16; 4096],
+    next_on: &mut [u8; 257],
     events: &mut [u16; 32768],
+    flags: &mut [u16; 1056],
+    done: &mut [u16; 1024],
     buffer: &mut [u8],
 )
     requires { ⌜ Usable plain d (now cells) (now table) (now rows) ⌝ }
@@ -46,7 +50,7 @@ pub fn choose(
     requires { ⌜ Stacked (d .s) (now stack) depth × (depth + 128 * n ≤ length (now stack)) ⌝ }
     requires { ⌜ ToPair plain (tablesOf (now cells)) (claimIn d (now table)) s z (entryIn (now togo)) × Exact plain (Brings (tablesOf (now cells)) z (Tops s) (reverse (take depth (now stack)))) n ⌝ }
     requires { ⌜ Pends (tablesOf (now cells)) (now pending) ⌝ }
-    requires { ⌜ (length (now costs) ≡ 4096) × Spare (now values) (now next) × (length (now events) ≡ 32768) ⌝ }
+    requires { ⌜ (length (now costs) ≡ 4096) × SearchRoom (now values) (now next) (now events) (now flags) (now done) ⌝ }
     ensures { λ _. ⌜ Chose plain (λ a. a) (Brings (tablesOf (now (cells .entry))) z (Tops s) (reverse (take depth (now (stack .entry))))) n (now (buffer .entry)) (now (buffer .exit)) ⌝ }
 {
     let mut top = depth;
@@ -62,8 +66,12 @@ pub fn choose(
             &stack[..top],
             (n - i) as u16,
             values,
+            on,
             next,
+            next_on,
             events,
+            flags,
+            done,
         );
         buffer[i] = a as u8;
         top = take_in(
@@ -77,8 +85,12 @@ pub fn choose(
             a,
             costs,
             values,
+            on,
             next,
+            next_on,
             events,
+            flags,
+            done,
         );
         i += 1;
     }

@@ -8,8 +8,8 @@ ghost use Rattle.walk.specs.Scale.{plain};
 ghost use Rattle.walk.specs.Claims.{Closed, Witnessed};
 ghost use Rattle.walk.specs.ShiftLaws.{Ready};
 ghost use Rattle.layers.specs.Crossing.{claimIn, Usable};
-ghost use Rattle.search.specs.Pending.{Pends};
-ghost use Rattle.search.specs.Waiting.{Spare};
+ghost use Rattle.waiting.specs.Pending.{Pends};
+ghost use Rattle.search.specs.Settle.{SearchRoom};
 ghost use Rattle.choice.specs.Taking.{Stacked, Taken};
 use crate::still::still;
 use advance::FAR;
@@ -31,16 +31,20 @@ pub fn take_in(
     a: usize,
     costs: &mut [u16; 4096],
     values: &mut [u16; 4096],
+    on: &mut [u8; 257],
     next: &mut [u16; 4096],
+    next_on: &mut [u8; 257],
     events: &mut [u16; 32768],
+    flags: &mut [u16; 1056],
+    done: &mut [u16; 1024],
 ) -> usize
     requires { ⌜ Usable plain d (now cells) (now table) (now rows) ⌝ }
     requires { ⌜ a < d .t ⌝ }
     requires { ⌜ Closed plain (tablesOf (now cells)) (claimIn d (now table)) × Witnessed plain (tablesOf (now cells)) (claimIn d (now table)) ⌝ }
     requires { ⌜ Stacked (d .s) (now stack) depth × (depth + 128 ≤ length (now stack)) × Ready (tablesOf (now cells)) (reverse (take depth (now stack))) a ⌝ }
     requires { ⌜ Pends (tablesOf (now cells)) (now pending) ⌝ }
-    requires { ⌜ (length (now costs) ≡ 4096) × Spare (now values) (now next) × (length (now events) ≡ 32768) ⌝ }
-    ensures { λ _. ⌜ (length (now (costs .exit)) ≡ 4096) × Spare (now (values .exit)) (now (next .exit)) × (length (now (events .exit)) ≡ 32768) ⌝ }
+    requires { ⌜ (length (now costs) ≡ 4096) × SearchRoom (now values) (now next) (now events) (now flags) (now done) ⌝ }
+    ensures { λ _. ⌜ (length (now (costs .exit)) ≡ 4096) × SearchRoom (now (values .exit)) (now (next .exit)) (now (events .exit)) (now (flags .exit)) (now (done .exit)) ⌝ }
     ensures { λ r. ⌜ Taken (tablesOf (now (cells .entry))) a (now (stack .entry)) depth (now (stack .exit)) r ⌝ }
 {
     let states = d.s;
@@ -58,8 +62,12 @@ pub fn take_in(
         a,
         0,
         values,
+        on,
         next,
+        next_on,
         events,
+        flags,
+        done,
     ) {
         Found::Nothing => depth,
         Found::At(kept, g) => {

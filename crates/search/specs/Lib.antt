@@ -1,11 +1,6 @@
-pub mod Pending
-pub mod Completes
-pub mod CompletesLaws
-pub mod Waiting
-pub mod WaitingLaws
-pub mod ExpandLaws
+pub mod Progress
+pub mod ProgressLaws
 pub mod Settle
-pub mod EventLaws
 pub mod SettleLaws
 pub mod Search
 pub mod SearchLaws

@@ -1,7 +1,5 @@
 // The search from a stack: whether a word that begins with a given terminal completes within a bound, and over which part of the stack.
 mod descend;
-mod events;
-mod expand;
 mod settle;
 
 pub use descend::search_with;

@@ -15,27 +15,16 @@ returns c = let p = c .before .before .before .before .before .before .before .b
 returns-2 : tie.Need-returns-2
 returns-2 c = let p = c .before .before .before .before .before .before .before .before .before .before .before .before .before .before .pre in answered-long (pair-reached (p .0) (c .before .before .before .before .before .before .before .only .ensures) (c .before .before .before .before .to-goal .ensures) (p .1 .0) (p .1 .1 .1) (c .before .before .shortest .ensures)) (c .if2 .taken) (c .before .if1 .left)
 
-write-short-requires : tie.Need-write-short-requires
-write-short-requires c κs =
-    let p = c .before .before .before .before .before .before .before .before .before .before .before .before .before .before .before .before .before .before .pre in
-    let goal = c .before .before .before .before .before .before .before .before .to-goal .ensures in
-    let only = c .before .before .before .before .before .before .before .before .before .before .before .only .ensures in
-    let short = c .before .before .before .before .if2 .left in
-    (p .0, ((p .1 .0, c .before .before .before .before .before .before .before .before .before .before .before .before .before .open-rows .ensures), ((to-pair (p .0) only goal, pair-reached (p .0) only goal (p .1 .0) (p .1 .1 .1) (c .before .before .before .before .before .before .shortest .ensures)), (p .1 .1 .1, omega (arith, short, c .before .before .before .if3 .taken), omega (arith, short, p .1 .1 .2)))))
+write-sentence-requires : tie.Need-write-sentence-requires
+write-sentence-requires c κs =
+    let p = c .before .before .before .before .before .before .before .before .before .before .before .before .before .before .before .before .before .pre in
+    let goal = c .before .before .before .before .before .before .before .to-goal .ensures in
+    let only = c .before .before .before .before .before .before .before .before .before .before .only .ensures in
+    let short = c .before .before .before .if2 .left in
+    (p .0, ((p .1 .0, c .before .before .before .before .before .before .before .before .before .before .before .before .open-rows .ensures), ((to-pair (p .0) only goal, pair-reached (p .0) only goal (p .1 .0) (p .1 .1 .1) (c .before .before .before .before .before .shortest .ensures)), (p .1 .1 .1, omega (arith, short), omega (arith, short, p .1 .1 .2)))))
 
 returns-3 : tie.Need-returns-3
-returns-3 c = answered-sentence (c .before .before .write-short .ensures)
-
-write-long-requires : tie.Need-write-long-requires
-write-long-requires c κs =
-    let p = c .before .before .before .before .before .before .before .before .before .before .before .before .before .before .before .before .before .before .pre in
-    let goal = c .before .before .before .before .before .before .before .before .to-goal .ensures in
-    let only = c .before .before .before .before .before .before .before .before .before .before .before .only .ensures in
-    let short = c .before .before .before .before .if2 .left in
-    (p .0, ((p .1 .0, c .before .before .before .before .before .before .before .before .before .before .before .before .before .open-rows .ensures), ((to-pair (p .0) only goal, pair-reached (p .0) only goal (p .1 .0) (p .1 .1 .1) (c .before .before .before .before .before .before .shortest .ensures)), (p .1 .1 .1, omega (arith, short), omega (arith, short, p .1 .1 .2)))))
-
-returns-4 : tie.Need-returns-4
-returns-4 c = answered-sentence (c .before .before .write-long .ensures)
+returns-3 c = answered-sentence (c .before .before .write-sentence .ensures)
 
 pub answer-spec : {M : Type 1} → statement M
 answer-spec =
@@ -48,9 +37,6 @@ answer-spec =
     returns
     returns-2
     (λ c. search needs)
-    write-short-requires
+    write-sentence-requires
     (λ c. search needs)
-    returns-3
-    write-long-requires
-    (λ c. search needs)
-    returns-4)
+    returns-3)

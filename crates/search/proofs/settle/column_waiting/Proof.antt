@@ -7,8 +7,8 @@ use Prim.Native.Nat.{ℕ, _+_, _-_, _*_, _≤_, _<_}
 use lib.ListN.{getD}
 use Rattle.walk.specs.Scale.{plain}
 use Rattle.positions.specs.PositionLaws.{each-more}
-use Rattle.search.specs.Waiting.{eventIn}
-use Rattle.search.specs.EventLaws.{row-dark, row-read}
+use Rattle.waiting.specs.Waiting.{eventIn}
+use Rattle.waiting.specs.EventLaws.{row-dark, row-read}
 use Rattle.search.specs.SettleLaws.{column-none}
 use borrow.Author.Needs.{needs}
 use Rattle.search.proofs.settle.column_waiting.Statement.{statement}

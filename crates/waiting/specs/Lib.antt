@@ -1,0 +1,6 @@
+pub mod Pending
+pub mod Completes
+pub mod CompletesLaws
+pub mod Waiting
+pub mod EventLaws
+pub mod ExpandLaws

@@ -1,0 +1,156 @@
+// A sentence over its memory: a stack, the costs to go to a shift, and what the search works in.
+ghost use mathlib.Core.Path.{_≡_};
+ghost use Prim.Native.Nat.{_+_, _*_, _≤_, _<_};
+ghost use lib.ListN.{length, getD};
+ghost use Rattle.book.specs.Tables.{tablesOf};
+ghost use Rattle.book.specs.TablesLaws.{Holds};
+ghost use Rattle.machine.specs.Machine.{Reaches};
+ghost use Rattle.walk.specs.Scale.{plain};
+ghost use Rattle.walk.specs.Cost.{Exact};
+ghost use Rattle.layers.specs.Crossing.{claimIn};
+ghost use Rattle.layers.specs.Layer.{entryIn};
+ghost use Rattle.layers.specs.Opening.{OpenRows};
+ghost use Rattle.crossings.specs.Crossings.{CrossingTable};
+ghost use Rattle.choice.specs.Choosing.{Chose};
+ghost use Rattle.choice.specs.ChoosingLaws.{ToPair};
+use book::Sizes;
+use choice::choose;
+use positions::mark_all;
+use walk::UNREACHED;
+
+// The sentence of n symbols of (s, z), at the front of the buffer. The stack holds the start, and has room for 128 states more a symbol.
+fn write_over(
+    cells: &[u16],
+    d: Sizes,
+    table: &[u16],
+    rows: &[u8; 4096],
+    togo: &[u16; 4096],
+    s: usize,
+    z: usize,
+    n: usize,
+    stack: &mut [u16],
+    buffer: &mut [u8],
+)
+    requires { ⌜ Holds d (now cells) ⌝ }
+    requires { ⌜ CrossingTable plain d (now cells) (now table) × OpenRows d (tablesOf (now cells)) (now rows) ⌝ }
+    requires { ⌜ ToPair plain (tablesOf (now cells)) (claimIn d (now table)) s z (entryIn (now togo)) × Exact plain (λ w. Reaches (tablesOf (now cells)) w z s) n ⌝ }
+    requires { ⌜ (z < d .t) × (n ≤ plain .limit) × (n ≤ length (now buffer)) ⌝ }
+    requires { ⌜ (1 + 128 * n ≤ length (now stack)) × (getD (now stack) 0 0 ≡ 0) ⌝ }
+    ensures { λ _. ⌜ Chose plain (λ a. a) (λ w. Reaches (tablesOf (now (cells .entry))) w z s) n (now (buffer .entry)) (now (buffer .exit)) ⌝ }
+{
+    let mut pending = [0u8; 4096];
+    mark_all(cells, d, false, &mut pending);
+    let mut costs = [UNREACHED; 4096];
+    let mut values = [UNREACHED; 4096];
+    let mut on = [0u8; 257];
+    let mut next = [UNREACHED; 4096];
+    let mut next_on = [0u8; 257];
+    let mut events = [UNREACHED; 32768];
+    let mut flags = [0u16; 1056];
+    let mut done = [UNREACHED; 1024];
+    choose(
+        cells,
+        d,
+        table,
+        rows,
+        togo,
+        &pending,
+        s,
+        z,
+        n,
+        stack,
+        1,
+        &mut costs,
+        &mut values,
+        &mut on,
+        &mut next,
+        &mut next_on,
+        &mut events,
+        &mut flags,
+        &mut done,
+        buffer,
+    );
+}
+
+// A stack for 1,000 symbols: the start, and at most 128 states more for each.
+fn long_stack() -> [u16; 129001]
+    ensures { λ r. ⌜ (length r ≡ 129001) × (getD r 0 0 ≡ 0) ⌝ }
+{
+    [0u16; 129001]
+}
+
+// A stack for 32, which is soon filled.
+fn short_stack() -> [u16; 4097]
+    ensures { λ r. ⌜ (length r ≡ 4097) × (getD r 0 0 ≡ 0) ⌝ }
+{
+    [0u16; 4097]
+}
+
+// The same over a stack of its own, for few symbols ..
+fn write_short(
+    cells: &[u16],
+    d: Sizes,
+    table: &[u16],
+    rows: &[u8; 4096],
+    togo: &[u16; 4096],
+    s: usize,
+    z: usize,
+    n: usize,
+    buffer: &mut [u8],
+)
+    requires { ⌜ Holds d (now cells) ⌝ }
+    requires { ⌜ CrossingTable plain d (now cells) (now table) × OpenRows d (tablesOf (now cells)) (now rows) ⌝ }
+    requires { ⌜ ToPair plain (tablesOf (now cells)) (claimIn d (now table)) s z (entryIn (now togo)) × Exact plain (λ w. Reaches (tablesOf (now cells)) w z s) n ⌝ }
+    requires { ⌜ (z < d .t) × (n ≤ 32) × (n ≤ length (now buffer)) ⌝ }
+    ensures { λ _. ⌜ Chose plain (λ a. a) (λ w. Reaches (tablesOf (now (cells .entry))) w z s) n (now (buffer .entry)) (now (buffer .exit)) ⌝ }
+{
+    let mut stack = short_stack();
+    write_over(cells, d, table, rows, togo, s, z, n, &mut stack, buffer);
+}
+
+// .. and for all that a sentence may have.
+fn write_long(
+    cells: &[u16],
+    d: Sizes,
+    table: &[u16],
+    rows: &[u8; 4096],
+    togo: &[u16; 4096],
+    s: usize,
+    z: usize,
+    n: usize,
+    buffer: &mut [u8],
+)
+    requires { ⌜ Holds d (now cells) ⌝ }
+    requires { ⌜ CrossingTable plain d (now cells) (now table) × OpenRows d (tablesOf (now cells)) (now rows) ⌝ }
+    requires { ⌜ ToPair plain (tablesOf (now cells)) (claimIn d (now table)) s z (entryIn (now togo)) × Exact plain (λ w. Reaches (tablesOf (now cells)) w z s) n ⌝ }
+    requires { ⌜ (z < d .t) × (n ≤ plain .limit) × (n ≤ length (now buffer)) ⌝ }
+    ensures { λ _. ⌜ Chose plain (λ a. a) (λ w. Reaches (tablesOf (now (cells .entry))) w z s) n (now (buffer .entry)) (now (buffer .exit)) ⌝ }
+{
+    let mut stack = long_stack();
+    write_over(cells, d, table, rows, togo, s, z, n, &mut stack, buffer);
+}
+
+// The sentence of n symbols of (s, z), the least that reach it, at the front of the buffer.
+pub fn write_sentence(
+    cells: &[u16],
+    d: Sizes,
+    table: &[u16],
+    rows: &[u8; 4096],
+    togo: &[u16; 4096],
+    s: usize,
+    z: usize,
+    n: usize,
+    buffer: &mut [u8],
+)
+    requires { ⌜ Holds d (now cells) ⌝ }
+    requires { ⌜ CrossingTable plain d (now cells) (now table) × OpenRows d (tablesOf (now cells)) (now rows) ⌝ }
+    requires { ⌜ ToPair plain (tablesOf (now cells)) (claimIn d (now table)) s z (entryIn (now togo)) × Exact plain (λ w. Reaches (tablesOf (now cells)) w z s) n ⌝ }
+    requires { ⌜ (z < d .t) × (n ≤ plain .limit) × (n ≤ length (now buffer)) ⌝ }
+    ensures { λ _. ⌜ Chose plain (λ a. a) (λ w. Reaches (tablesOf (now (cells .entry))) w z s) n (now (buffer .entry)) (now (buffer .exit)) ⌝ }
+{
+    if n <= 32 {
+        write_short(cells, d, table, rows, togo, s, z, n, buffer);
+        return;
+    }
+    write_long(cells, d, table, rows, togo, s, z, n, buffer);
+}
