@@ -10,19 +10,18 @@ use lib.Seq.{take-suc, length-take-le}
 use Rattle.number.specs.LentLaws.{over-more}
 use Rattle.book.specs.Tables.{Tables}
 use Rattle.book.specs.TablesLaws.{InRange}
-use Rattle.machine.specs.Machine.{Steps, done, Reaches}
-use Rattle.machine.specs.MachineLaws.{taken-terminals}
+use Rattle.machine.specs.Machine.{done, Reaches}
 use Rattle.walk.specs.Scale.{Scale, weight}
 use Rattle.walk.specs.Cost.{Exact}
 use Rattle.walk.specs.CostLaws.{cost-append, attained-map}
 use Rattle.walk.specs.Claims.{Claims, Closed, Witnessed, Least, Onward}
-use Rattle.walk.specs.Walk.{GetsTo, Lands}
-use Rattle.walk.specs.WalkLaws.{descends-map, lands-gets, gets-lands}
+use Rattle.walk.specs.Walk.{GetsTo}
+use Rattle.walk.specs.WalkLaws.{descends-map}
 use Rattle.walk.specs.Answer.{Sentence}
 use Rattle.walk.specs.AnswerLaws.{best-map}
 use Rattle.walk.specs.ShiftLaws.{Ready}
 use Rattle.walk.specs.Choice.{Chosen, AfterFrom, Onwards, WithinOf, Brings, LandsIn}
-use Rattle.walk.specs.ChoiceLaws.{Tops, at, chosen-none, choose, choose-some, choose-ready, choose-terminal, choose-weight, best-chosen, after-more, onwards-map, brings-onwards}
+use Rattle.walk.specs.ChoiceLaws.{Tops, reaches-brings, gets-brings, chosen-none, choose, choose-some, choose-ready, choose-terminal, choose-weight, best-chosen, after-more, onwards-map, brings-onwards}
 use Rattle.waiting.specs.Completes.{Completes}
 use Rattle.choice.specs.Choice.{Completing, LowestFrom}
 use Rattle.choice.specs.Choosing.{Choosing, Chose}
@@ -114,13 +113,8 @@ ToPair σ B claim s z G = (q a : ℕ) → q < B .states → a < B .terminals →
 module _ {σ : Scale} {B : Tables} {claim : Claims} {G : ℕ → ℕ → ℕ} {s z : ℕ} (i : InRange B) (c : Closed σ B claim) (w : Witnessed σ B claim) (hz : z < B .terminals)
     (least : ToPair σ B claim s z G) where
   tops-gets : {st : List ℕ} (x : ℕ) (v : List ℕ) → LandsIn B z (Tops s) st x v ↔ GetsTo B (OnePair s z) st x v
-  tops-gets {st} x v = (λ (s′, below, k, l). to k l, λ g. from g)
-    where
-      to : {s′ : ℕ} {below : List ℕ} → Tops s s′ below → Lands B s′ z below st x v → GetsTo B (OnePair s z) st x v
-      to at l = descends-map (λ q st a w n r. (s, z, (refl, refl), r)) (lands-gets l)
-
-      from : GetsTo B (OnePair s z) st x v → LandsIn B z (Tops s) st x v
-      from g = let (below, l) = gets-lands (descends-map (λ q st a w n (s′, z′, j, r). rw (j .0, j .1) at r) g) in (s, below, at, l)
+  tops-gets x v =
+      (λ l. descends-map (λ q st a w n r. (s, z, (refl, refl), r)) (gets-brings x v .0 l), λ g. gets-brings x v .1 (descends-map (λ q st a w n (s′, z′, j, r). rw (j .0, j .1) at r) g))
 
   pub pair-chooser : (begun : List ℕ) → Chooser σ B (Brings B z (Tops s) begun) begun (GetsTo B (OnePair s z)) (λ st r x. (v : ℕ) × Completes σ B claim G st x v × (v ≤ r))
   pair-chooser begun = record {
@@ -186,16 +180,9 @@ start-stack : (stack : List ℕ) → 1 ≤ length stack → getD stack 0 0 ≡ 0
 start-stack stack h e = ap reverse (take-suc stack 0 0 h) ∙ rw e
 
 module _ {B : Tables} {s z : ℕ} (i : InRange B) where
-  -- the words that bring the pair from the start are those that reach it
-  start-brings : (w : List ℕ) → Brings B z (Tops s) (0 ∷ []) w ↔ Reaches B w z s
-  start-brings w = (λ (s′, below, k, r). to k r, λ r. (s, r .below, at, r .run))
-    where
-      to : {s′ : ℕ} {below : List ℕ} → Tops s s′ below → Steps B (0 ∷ []) (w ++ (z ∷ [])) (s′ ∷ below) (z ∷ []) → Reaches B w z s
-      to {below} at r = record { terminals = taken-terminals i w r; below = below; run = r }
-
   module _ {σ : Scale} {n : ℕ} (stack : List ℕ) (some : 1 ≤ length stack) (first : getD stack 0 0 ≡ 0) where
     pub start-exact : Exact σ (λ w. Reaches B w z s) n → Exact σ (Brings B z (Tops s) (reverse (take 1 stack))) n
-    start-exact e = rw (start-stack stack some first) (record { least = λ w b. e .least w (start-brings w .0 b); attained = attained-map σ (λ w p. start-brings w .1 p) (e .attained) })
+    start-exact e = rw (start-stack stack some first) (record { least = λ w b. e .least w (reaches-brings i w .0 b); attained = attained-map σ (λ w p. reaches-brings i w .1 p) (e .attained) })
 
     pub start-chose : {rank : ℕ → ℕ} {lent buffer : List ℕ} → Chose σ rank (Brings B z (Tops s) (reverse (take 1 stack))) n lent buffer → Chose σ rank (λ w. Reaches B w z s) n lent buffer
-    start-chose c = chose-map start-brings (rw (start-stack stack some first) at c)
+    start-chose c = chose-map (reaches-brings i) (rw (start-stack stack some first) at c)

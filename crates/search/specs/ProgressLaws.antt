@@ -41,11 +41,11 @@ module _ {σ : Scale} {B : Tables} {claim : Claims} (n : Narrow B) where
       (omega (arith, p .longer), omega (arith, p .left, n .nonterminals), omega (arith, n .terminals))
 
 module _ {σ : Scale} {B : Tables} {claim : Claims} {q a : ℕ} {st : List ℕ} where
-  at-top : {i g b u : ℕ} → i ≤ 0 → Stands σ B claim q st a i g b u → (i ≡ 0) × (g ≡ q) × (b ≡ a) × (u ≡ 0)
+  pub at-top : {i g b u : ℕ} → i ≤ 0 → Stands σ B claim q st a i g b u → (i ≡ 0) × (g ≡ q) × (b ≡ a) × (u ≡ 0)
   at-top h top = (refl, refl, refl, refl)
   at-top h (falls d s p e l j) = absurd (omega arith)
 
-  stands-depth : {i g b u : ℕ} → Stands σ B claim q st a i g b u → i ≤ length st
+  pub stands-depth : {i g b u : ℕ} → Stands σ B claim q st a i g b u → i ≤ length st
   stands-depth top = omega arith
   stands-depth (falls d s p e l j) = l
 
