@@ -29,16 +29,15 @@ fn completes(
     on: &mut [u8; 257],
     next: &mut [u16; 4096],
     next_on: &mut [u8; 257],
-    events: &mut [u16; 32768],
-    flags: &mut [u16; 1056],
+    events: &mut [u16; 33824],
     done: &mut [u16; 1024],
 ) -> bool
     requires { ⌜ Usable plain d (now cells) (now table) (now rows) ⌝ }
     requires { ⌜ (a < d .t) × (r ≤ plain .limit) ⌝ }
     requires { ⌜ Stack (d .s) (now stack) ⌝ }
     requires { ⌜ Pends (tablesOf (now cells)) (now pending) ⌝ }
-    requires { ⌜ SearchRoom (now values) (now next) (now events) (now flags) (now done) ⌝ }
-    ensures { λ _. ⌜ SearchRoom (now (values .exit)) (now (next .exit)) (now (events .exit)) (now (flags .exit)) (now (done .exit)) ⌝ }
+    requires { ⌜ SearchRoom (now values) (now next) (now events) (now done) ⌝ }
+    ensures { λ _. ⌜ SearchRoom (now (values .exit)) (now (next .exit)) (now (events .exit)) (now (done .exit)) ⌝ }
     ensures { λ b. ⌜ (b ≡ true → Completing plain (tablesOf (now (cells .entry))) (claimIn d (now (table .entry))) (entryIn (now (togo .entry))) (now (stack .entry)) r a) ⌝ }
     ensures { λ b. ⌜ (b ≡ false → Completing plain (tablesOf (now (cells .entry))) (claimIn d (now (table .entry))) (entryIn (now (togo .entry))) (now (stack .entry)) r a → ⊥) ⌝ }
 {
@@ -57,7 +56,6 @@ fn completes(
         next,
         next_on,
         events,
-        flags,
         done,
     ) {
         Found::At(_, _) => true,
@@ -79,16 +77,15 @@ pub fn lowest(
     on: &mut [u8; 257],
     next: &mut [u16; 4096],
     next_on: &mut [u8; 257],
-    events: &mut [u16; 32768],
-    flags: &mut [u16; 1056],
+    events: &mut [u16; 33824],
     done: &mut [u16; 1024],
 ) -> usize
     requires { ⌜ Usable plain d (now cells) (now table) (now rows) ⌝ }
     requires { ⌜ r ≤ plain .limit ⌝ }
     requires { ⌜ Stack (d .s) (now stack) ⌝ }
     requires { ⌜ Pends (tablesOf (now cells)) (now pending) ⌝ }
-    requires { ⌜ SearchRoom (now values) (now next) (now events) (now flags) (now done) ⌝ }
-    ensures { λ _. ⌜ SearchRoom (now (values .exit)) (now (next .exit)) (now (events .exit)) (now (flags .exit)) (now (done .exit)) ⌝ }
+    requires { ⌜ SearchRoom (now values) (now next) (now events) (now done) ⌝ }
+    ensures { λ _. ⌜ SearchRoom (now (values .exit)) (now (next .exit)) (now (events .exit)) (now (done .exit)) ⌝ }
     ensures { λ a. ⌜ LowestFrom (Completing plain (tablesOf (now (cells .entry))) (claimIn d (now (table .entry))) (entryIn (now (togo .entry))) (now (stack .entry)) r) 1 (d .t) a ⌝ }
 {
     let t = d.t;
@@ -109,7 +106,6 @@ pub fn lowest(
             next,
             next_on,
             events,
-            flags,
             done,
         ) {
             return a;

@@ -39,8 +39,7 @@ pub fn choose(
     on: &mut [u8; 257],
     next: &mut [u16; 4096],
     next_on: &mut [u8; 257],
-    events: &mut [u16; 32768],
-    flags: &mut [u16; 1056],
+    events: &mut [u16; 33824],
     done: &mut [u16; 1024],
     buffer: &mut [u8],
 )
@@ -50,7 +49,7 @@ pub fn choose(
     requires { ⌜ Stacked (d .s) (now stack) depth × (depth + 128 * n ≤ length (now stack)) ⌝ }
     requires { ⌜ ToPair plain (tablesOf (now cells)) (claimIn d (now table)) s z (entryIn (now togo)) × Exact plain (Brings (tablesOf (now cells)) z (Tops s) (reverse (take depth (now stack)))) n ⌝ }
     requires { ⌜ Pends (tablesOf (now cells)) (now pending) ⌝ }
-    requires { ⌜ (length (now costs) ≡ 4096) × SearchRoom (now values) (now next) (now events) (now flags) (now done) ⌝ }
+    requires { ⌜ (length (now costs) ≡ 4096) × SearchRoom (now values) (now next) (now events) (now done) ⌝ }
     ensures { λ _. ⌜ Chose plain (λ a. a) (Brings (tablesOf (now (cells .entry))) z (Tops s) (reverse (take depth (now (stack .entry))))) n (now (buffer .entry)) (now (buffer .exit)) ⌝ }
 {
     let mut top = depth;
@@ -70,7 +69,6 @@ pub fn choose(
             next,
             next_on,
             events,
-            flags,
             done,
         );
         buffer[i] = a as u8;
@@ -89,7 +87,6 @@ pub fn choose(
             next,
             next_on,
             events,
-            flags,
             done,
         );
         i += 1;

@@ -34,8 +34,7 @@ pub fn take_in(
     on: &mut [u8; 257],
     next: &mut [u16; 4096],
     next_on: &mut [u8; 257],
-    events: &mut [u16; 32768],
-    flags: &mut [u16; 1056],
+    events: &mut [u16; 33824],
     done: &mut [u16; 1024],
 ) -> usize
     requires { ⌜ Usable plain d (now cells) (now table) (now rows) ⌝ }
@@ -43,8 +42,8 @@ pub fn take_in(
     requires { ⌜ Closed plain (tablesOf (now cells)) (claimIn d (now table)) × Witnessed plain (tablesOf (now cells)) (claimIn d (now table)) ⌝ }
     requires { ⌜ Stacked (d .s) (now stack) depth × (depth + 128 ≤ length (now stack)) × Ready (tablesOf (now cells)) (reverse (take depth (now stack))) a ⌝ }
     requires { ⌜ Pends (tablesOf (now cells)) (now pending) ⌝ }
-    requires { ⌜ (length (now costs) ≡ 4096) × SearchRoom (now values) (now next) (now events) (now flags) (now done) ⌝ }
-    ensures { λ _. ⌜ (length (now (costs .exit)) ≡ 4096) × SearchRoom (now (values .exit)) (now (next .exit)) (now (events .exit)) (now (flags .exit)) (now (done .exit)) ⌝ }
+    requires { ⌜ (length (now costs) ≡ 4096) × SearchRoom (now values) (now next) (now events) (now done) ⌝ }
+    ensures { λ _. ⌜ (length (now (costs .exit)) ≡ 4096) × SearchRoom (now (values .exit)) (now (next .exit)) (now (events .exit)) (now (done .exit)) ⌝ }
     ensures { λ r. ⌜ Taken (tablesOf (now (cells .entry))) a (now (stack .entry)) depth (now (stack .exit)) r ⌝ }
 {
     let states = d.s;
@@ -66,7 +65,6 @@ pub fn take_in(
         next,
         next_on,
         events,
-        flags,
         done,
     ) {
         Found::Nothing => depth,

@@ -30,35 +30,31 @@ rowOf d X = d % 32 * 32 + X
 unfoldable pub waitingIn : (ℕ → ℕ → ℕ) → ℕ → ℕ → ℕ → ℕ
 waitingIn T d X c = T (rowOf d X) c
 
--- such a table in an array has a flag for each row and, from cell 1024 on, one for each depth: a row is on if both are
+-- such a table lies in one array: the costs, from cell 32768 on a flag for each row and from cell 33792 on one for each depth; a row is on if
+-- both its flags are
 abbrev pub depthIn : List ℕ → ℕ → ℕ
-depthIn flags k = getD flags (1024 + k) 0
+depthIn events k = getD events (33792 + k) 0
 
 unfoldable pub rowOn : List ℕ → ℕ → ℕ
-rowOn flags row = cond (eqb (depthIn flags (row / 32)) 0) 0 (getD flags row 0)
+rowOn events row = cond (eqb (depthIn events (row / 32)) 0) 0 (getD events (32768 + row) 0)
 
 -- a row that is off is unreached
-unfoldable pub eventIn : Scale → List ℕ → List ℕ → ℕ → ℕ → ℕ
-eventIn σ events flags row c = cond (eqb (rowOn flags row) 0) (unreached σ) (entryIn events row c)
+unfoldable pub eventIn : Scale → List ℕ → ℕ → ℕ → ℕ
+eventIn σ events row c = cond (eqb (rowOn events row) 0) (unreached σ) (entryIn events row c)
 
 -- cell i of the rows of `at`: the nonterminal i / 32 and the terminal i % 32
 abbrev pub cellIn : (ℕ → ℕ → ℕ) → ℕ → ℕ → ℕ
 cellIn T at i = T (at * 32 + i / 32) (i % 32)
 
--- the array and its flags have their lengths
-pub record EventRows (events flags : List ℕ) : Type 0 where
-  pub size : length events ≡ 32768
-  pub count : length flags ≡ 1056
-
 -- depth k is on, and the table is as it was
-pub record DepthOn (σ : Scale) (k : ℕ) (events flags flags′ : List ℕ) : Type 0 where
-  pub on : ¬ (depthIn flags′ k ≡ 0)
-  pub same : (row c : ℕ) → c < 32 → eventIn σ events flags′ row c ≡ eventIn σ events flags row c
+pub record DepthOn (σ : Scale) (k : ℕ) (events events′ : List ℕ) : Type 0 where
+  pub on : ¬ (depthIn events′ k ≡ 0)
+  pub same : (row c : ℕ) → c < 32 → eventIn σ events′ row c ≡ eventIn σ events row c
 
 -- a row is on, and the table is as it was
-pub record RowOn (σ : Scale) (row : ℕ) (events flags events′ flags′ : List ℕ) : Type 0 where
-  pub on : ¬ (rowOn flags′ row ≡ 0)
-  pub same : (row′ c : ℕ) → c < 32 → eventIn σ events′ flags′ row′ c ≡ eventIn σ events flags row′ c
+pub record RowOn (σ : Scale) (row : ℕ) (events events′ : List ℕ) : Type 0 where
+  pub on : ¬ (rowOn events′ row ≡ 0)
+  pub same : (row′ c : ℕ) → c < 32 → eventIn σ events′ row′ c ≡ eventIn σ events row′ c
 
 -- the rows of `at` are unreached from now on, and the others as they were
 pub record Dropped (σ : Scale) (at : ℕ) (T T′ : ℕ → ℕ → ℕ) : Type 0 where

@@ -1,6 +1,7 @@
 // From one state: every reduction that pops more than was pushed since, into the table of waiting gotos.
 ghost use mathlib.Core.Path.{_≡_};
 ghost use Prim.Native.Nat.{ℕ, _+_, _≤_, _<_};
+ghost use lib.ListN.{length};
 ghost use Rattle.book.specs.Tables.{tablesOf};
 ghost use Rattle.book.specs.TablesLaws.{Holds};
 ghost use Rattle.walk.specs.Scale.{plain, long};
@@ -9,7 +10,7 @@ ghost use Rattle.layers.specs.Crossing.{claimIn, Usable};
 ghost use Rattle.layers.specs.Layer.{valueIn};
 ghost use Rattle.layers.specs.States.{flagIn, Listed};
 ghost use Rattle.layers.specs.Step.{TableStep};
-ghost use Rattle.waiting.specs.Waiting.{eventIn, EventRows, Expands, Popped, Reduces, ReducesState, ReducesLayer, ExpandsFrom, Allows, Spare};
+ghost use Rattle.waiting.specs.Waiting.{eventIn, Expands, Popped, Reduces, ReducesState, ReducesLayer, ExpandsFrom, Allows, Spare};
 ghost use Rattle.waiting.specs.Pending.{Pends, Pending};
 use crate::events::lower;
 use book::Action;
@@ -33,21 +34,20 @@ fn pop(
     p: usize,
     c: usize,
     w: u16,
-    events: &mut [u16; 32768],
-    flags: &mut [u16; 1056],
+    events: &mut [u16; 33824],
 )
     requires { ⌜ Holds d (now cells) ⌝ }
     requires { ⌜ (p < d .p) × (c < d .t) × (at < 32) ⌝ }
-    requires { ⌜ EventRows (now events) (now flags) ⌝ }
-    ensures { λ _. ⌜ EventRows (now (events .exit)) (now (flags .exit)) ⌝ }
-    ensures { λ _. ⌜ TableStep plain (Popped (tablesOf (now (cells .entry))) at m p c w) (eventIn plain (now (events .entry)) (now (flags .entry))) (eventIn plain (now (events .exit)) (now (flags .exit))) ⌝ }
+    requires { ⌜ length (now events) ≡ 33824 ⌝ }
+    ensures { λ _. ⌜ length (now (events .exit)) ≡ 33824 ⌝ }
+    ensures { λ _. ⌜ TableStep plain (Popped (tablesOf (now (cells .entry))) at m p c w) (eventIn plain (now (events .entry))) (eventIn plain (now (events .exit))) ⌝ }
 {
     let n = production_length(cells, d, p) as usize;
     if n <= m {
         return;
     }
     let x = left_side(cells, d, p) as usize;
-    lower(events, flags, (at + (n - m - 1)) % 32, x, c, w);
+    lower(events, (at + (n - m - 1)) % 32, x, c, w);
 }
 
 // The reduction in (q, c), if there is one and the cost is within r.
@@ -60,20 +60,19 @@ fn pop_at(
     q: usize,
     c: usize,
     w: u16,
-    events: &mut [u16; 32768],
-    flags: &mut [u16; 1056],
+    events: &mut [u16; 33824],
 )
     requires { ⌜ Holds d (now cells) ⌝ }
     requires { ⌜ (q < d .s) × (c < d .t) × (at < 32) ⌝ }
-    requires { ⌜ EventRows (now events) (now flags) ⌝ }
-    ensures { λ _. ⌜ EventRows (now (events .exit)) (now (flags .exit)) ⌝ }
-    ensures { λ _. ⌜ TableStep plain (Reduces (tablesOf (now (cells .entry))) at m r q c w) (eventIn plain (now (events .entry)) (now (flags .entry))) (eventIn plain (now (events .exit)) (now (flags .exit))) ⌝ }
+    requires { ⌜ length (now events) ≡ 33824 ⌝ }
+    ensures { λ _. ⌜ length (now (events .exit)) ≡ 33824 ⌝ }
+    ensures { λ _. ⌜ TableStep plain (Reduces (tablesOf (now (cells .entry))) at m r q c w) (eventIn plain (now (events .entry))) (eventIn plain (now (events .exit))) ⌝ }
 {
     if w > r {
         return;
     }
     match action_at(cells, d, q, c) {
-        Action::Reduce(p) => pop(cells, d, at, m, p as usize, c, w, events, flags),
+        Action::Reduce(p) => pop(cells, d, at, m, p as usize, c, w, events),
         Action::Error => {}
         Action::Accept => {}
         Action::Shift(_) => {}
@@ -91,21 +90,20 @@ fn pop_state(
     values: &[u16; 4096],
     on: &[u8; 257],
     q: usize,
-    events: &mut [u16; 32768],
-    flags: &mut [u16; 1056],
+    events: &mut [u16; 33824],
 )
     requires { ⌜ Holds d (now cells) ⌝ }
     requires { ⌜ (q < d .s) × (at < 32) × (r ≤ long plain) × ¬ (flagIn (now on) q ≡ 0) ⌝ }
-    requires { ⌜ EventRows (now events) (now flags) ⌝ }
-    ensures { λ _. ⌜ EventRows (now (events .exit)) (now (flags .exit)) ⌝ }
-    ensures { λ _. ⌜ TableStep plain (ReducesState plain d (tablesOf (now (cells .entry))) at m r v (valueIn plain (now (values .entry)) (now (on .entry))) q) (eventIn plain (now (events .entry)) (now (flags .entry))) (eventIn plain (now (events .exit)) (now (flags .exit))) ⌝ }
+    requires { ⌜ length (now events) ≡ 33824 ⌝ }
+    ensures { λ _. ⌜ length (now (events .exit)) ≡ 33824 ⌝ }
+    ensures { λ _. ⌜ TableStep plain (ReducesState plain d (tablesOf (now (cells .entry))) at m r v (valueIn plain (now (values .entry)) (now (on .entry))) q) (eventIn plain (now (events .entry))) (eventIn plain (now (events .exit))) ⌝ }
 {
     let t = d.t;
     let row = q * 32;
     let mut c: usize = 0;
     while c < t {
         let w = add(v, values[row + c]);
-        pop_at(cells, d, at, m, r, q, c, w, events, flags);
+        pop_at(cells, d, at, m, r, q, c, w, events);
         c += 1;
     }
 }
@@ -119,20 +117,19 @@ fn pop_layer(
     v: u16,
     values: &[u16; 4096],
     on: &[u8; 257],
-    events: &mut [u16; 32768],
-    flags: &mut [u16; 1056],
+    events: &mut [u16; 33824],
 )
     requires { ⌜ Holds d (now cells) ⌝ }
     requires { ⌜ (at < 32) × (r ≤ long plain) × Listed (d .s) (now on) ⌝ }
-    requires { ⌜ EventRows (now events) (now flags) ⌝ }
-    ensures { λ _. ⌜ EventRows (now (events .exit)) (now (flags .exit)) ⌝ }
-    ensures { λ _. ⌜ TableStep plain (ReducesLayer plain d (tablesOf (now (cells .entry))) at m r v (valueIn plain (now (values .entry)) (now (on .entry)))) (eventIn plain (now (events .entry)) (now (flags .entry))) (eventIn plain (now (events .exit)) (now (flags .exit))) ⌝ }
+    requires { ⌜ length (now events) ≡ 33824 ⌝ }
+    ensures { λ _. ⌜ length (now (events .exit)) ≡ 33824 ⌝ }
+    ensures { λ _. ⌜ TableStep plain (ReducesLayer plain d (tablesOf (now (cells .entry))) at m r v (valueIn plain (now (values .entry)) (now (on .entry)))) (eventIn plain (now (events .entry))) (eventIn plain (now (events .exit))) ⌝ }
 {
     let n = count_on(on);
     let mut i: usize = 0;
     while i < n {
         let q = state_on(on, i);
-        pop_state(cells, d, at, m, r, v, values, on, q, events, flags);
+        pop_state(cells, d, at, m, r, v, values, on, q, events);
         i += 1;
     }
 }
@@ -165,15 +162,14 @@ fn expand_after(
     on: &mut [u8; 257],
     next: &mut [u16; 4096],
     next_on: &mut [u8; 257],
-    events: &mut [u16; 32768],
-    flags: &mut [u16; 1056],
+    events: &mut [u16; 33824],
 )
     requires { ⌜ Usable plain d (now cells) (now table) (now rows) ⌝ }
     requires { ⌜ (at < 32) × (r ≤ long plain) × (bound ≤ long plain) × Allows plain r v bound ⌝ }
     requires { ⌜ Pends (tablesOf (now cells)) (now pending) ⌝ }
-    requires { ⌜ Spare (now values) (now next) × EventRows (now events) (now flags) × Listed (d .s) (now on) ⌝ }
-    ensures { λ _. ⌜ Spare (now (values .exit)) (now (next .exit)) × EventRows (now (events .exit)) (now (flags .exit)) ⌝ }
-    ensures { λ _. ⌜ ((g a : ℕ) → LayerWhere plain (tablesOf (now (cells .entry))) (claimIn d (now (table .entry))) (Pending (now (pending .entry)) bound) g a m (valueIn plain (now (values .entry)) (now (on .entry))) → TableStep plain (ExpandsFrom plain (tablesOf (now (cells .entry))) (claimIn d (now (table .entry))) at g a v r (m + 1)) (eventIn plain (now (events .entry)) (now (flags .entry))) (eventIn plain (now (events .exit)) (now (flags .exit)))) ⌝ }
+    requires { ⌜ Spare (now values) (now next) × (length (now events) ≡ 33824) × Listed (d .s) (now on) ⌝ }
+    ensures { λ _. ⌜ Spare (now (values .exit)) (now (next .exit)) × (length (now (events .exit)) ≡ 33824) ⌝ }
+    ensures { λ _. ⌜ ((g a : ℕ) → LayerWhere plain (tablesOf (now (cells .entry))) (claimIn d (now (table .entry))) (Pending (now (pending .entry)) bound) g a m (valueIn plain (now (values .entry)) (now (on .entry))) → TableStep plain (ExpandsFrom plain (tablesOf (now (cells .entry))) (claimIn d (now (table .entry))) at g a v r (m + 1)) (eventIn plain (now (events .entry))) (eventIn plain (now (events .exit)))) ⌝ }
 {
     if m >= 31 {
         return;
@@ -195,7 +191,7 @@ fn expand_after(
     if count_on(next_on) == 0 {
         return;
     }
-    pop_layer(cells, d, at, m + 1, r, v, next, next_on, events, flags);
+    pop_layer(cells, d, at, m + 1, r, v, next, next_on, events);
     expand_after(
         cells,
         d,
@@ -212,7 +208,6 @@ fn expand_after(
         values,
         on,
         events,
-        flags,
     );
 }
 
@@ -232,17 +227,16 @@ pub fn expand(
     on: &mut [u8; 257],
     next: &mut [u16; 4096],
     next_on: &mut [u8; 257],
-    events: &mut [u16; 32768],
-    flags: &mut [u16; 1056],
+    events: &mut [u16; 33824],
 )
     requires { ⌜ Usable plain d (now cells) (now table) (now rows) ⌝ }
     requires { ⌜ (g < d .s) × (a < d .t) × (at < 32) × (r ≤ long plain) ⌝ }
     requires { ⌜ Pends (tablesOf (now cells)) (now pending) ⌝ }
-    requires { ⌜ Spare (now values) (now next) × EventRows (now events) (now flags) ⌝ }
-    ensures { λ _. ⌜ Spare (now (values .exit)) (now (next .exit)) × EventRows (now (events .exit)) (now (flags .exit)) ⌝ }
-    ensures { λ _. ⌜ TableStep plain (Expands plain (tablesOf (now (cells .entry))) (claimIn d (now (table .entry))) at g a v r) (eventIn plain (now (events .entry)) (now (flags .entry))) (eventIn plain (now (events .exit)) (now (flags .exit))) ⌝ }
+    requires { ⌜ Spare (now values) (now next) × (length (now events) ≡ 33824) ⌝ }
+    ensures { λ _. ⌜ Spare (now (values .exit)) (now (next .exit)) × (length (now (events .exit)) ≡ 33824) ⌝ }
+    ensures { λ _. ⌜ TableStep plain (Expands plain (tablesOf (now (cells .entry))) (claimIn d (now (table .entry))) at g a v r) (eventIn plain (now (events .entry))) (eventIn plain (now (events .exit))) ⌝ }
 {
-    pop_at(cells, d, at, 0, r, g, a, v, events, flags);
+    pop_at(cells, d, at, 0, r, g, a, v, events);
     if rows[g * 32 + a] == 0 {
         return;
     }
@@ -264,6 +258,5 @@ pub fn expand(
         next,
         next_on,
         events,
-        flags,
     );
 }

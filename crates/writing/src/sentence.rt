@@ -45,8 +45,7 @@ fn write_over(
     let mut on = [0u8; 257];
     let mut next = [UNREACHED; 4096];
     let mut next_on = [0u8; 257];
-    let mut events = [UNREACHED; 32768];
-    let mut flags = [0u16; 1056];
+    let mut events = [0u16; 33824];
     let mut done = [UNREACHED; 1024];
     choose(
         cells,
@@ -66,7 +65,6 @@ fn write_over(
         &mut next,
         &mut next_on,
         &mut events,
-        &mut flags,
         &mut done,
         buffer,
     );

@@ -27,10 +27,10 @@ one-less : (n i : ℕ) → i < n → n - (i + 1) ≡ n - i - 1
 one-less n i h = omega arith
 
 abbrev Inv-loop : tie.InvT-loop
-Inv-loop cells d table rows togo pending s z n stack₀ depth costs₀ values₀ on₀ next₀ next-on₀ events₀ flags₀ done₀ buffer₀ top₀ i₀ stack costs values on next next-on events flags done buffer top i = (i ≤ n) × (length buffer ≡ length buffer₀) × (length stack ≡ length stack₀) × Choosing plain (λ a. a) (tablesOf cells) (Brings (tablesOf cells) z (Tops s) (reverse (take depth stack₀))) (reverse (take depth stack₀)) n buffer₀ buffer stack top i (n - i) × ((length costs ≡ 4096) × SearchRoom values next events flags done)
+Inv-loop cells d table rows togo pending s z n stack₀ depth costs₀ values₀ on₀ next₀ next-on₀ events₀ done₀ buffer₀ top₀ i₀ stack costs values on next next-on events done buffer top i = (i ≤ n) × (length buffer ≡ length buffer₀) × (length stack ≡ length stack₀) × Choosing plain (λ a. a) (tablesOf cells) (Brings (tablesOf cells) z (Tops s) (reverse (take depth stack₀))) (reverse (take depth stack₀)) n buffer₀ buffer stack top i (n - i) × ((length costs ≡ 4096) × SearchRoom values next events done)
 
 abbrev μ-loop : tie.MeasureT-loop
-μ-loop cells d table rows togo pending s z n stack₀ depth costs₀ values₀ on₀ next₀ next-on₀ events₀ flags₀ done₀ buffer₀ top₀ i₀ stack costs values on next next-on events flags done buffer top i = n - i
+μ-loop cells d table rows togo pending s z n stack₀ depth costs₀ values₀ on₀ next₀ next-on₀ events₀ done₀ buffer₀ top₀ i₀ stack costs values on next next-on events done buffer top i = n - i
 
 loop-holds : tie.Need-loop-holds Inv-loop μ-loop
 loop-holds c =
@@ -55,37 +55,37 @@ cast-lowest : tie.Need-cast-lowest Inv-loop μ-loop
 cast-lowest c = omega (arith, c .before .before .before .before .before .before .before .before .pre .1 .0)
 
 lowest-requires : tie.Need-lowest-requires Inv-loop μ-loop
-lowest-requires c κs = let p = c .before .before .before .before .before .before .before .before .before .before .before .before .before .before .before .pre in let l = c .before .before .before .before .before .before .before .before .before .loop .inv in (p .0, (omega (arith, p .1 .0), (part-states (rw (states-are (p .0 .fitted .holds)) at (l .3 .stacked)) (omega (arith, room (c .before .before .before .before .before .before .before .before))), (p .1 .1 .1 .1 .1 .0, l .4 .1))))
+lowest-requires c κs = let p = c .before .before .before .before .before .before .before .before .before .before .before .before .before .before .pre in let l = c .before .before .before .before .before .before .before .before .loop .inv in (p .0, (omega (arith, p .1 .0), (part-states (rw (states-are (p .0 .fitted .holds)) at (l .3 .stacked)) (omega (arith, room (c .before .before .before .before .before .before .before))), (p .1 .1 .1 .1 .1 .0, l .4 .1))))
 
-pick : (c : tie.After-lowest Inv-loop μ-loop) → Picked plain (λ a. a) (tablesOf (c .before .before .before .before .before .before .before .before .before .before .before .before .before .before .before .before .args .cells .now)) (Brings (tablesOf (c .before .before .before .before .before .before .before .before .before .before .before .before .before .before .before .before .args .cells .now)) (c .before .before .before .before .before .before .before .before .before .before .before .before .before .before .before .before .args .z) (Tops (c .before .before .before .before .before .before .before .before .before .before .before .before .before .before .before .before .args .s)) (reverse (take (c .before .before .before .before .before .before .before .before .before .before .before .before .before .before .before .before .args .depth) (c .before .before .before .before .before .before .before .before .before .before .before .before .before .before .before .before .args .stack .now)))) (c .before .before .before .before .before .before .before .before .before .before .loop .inv .3 .word) (reverse (take (c .before .before .before .before .before .before .before .before .before .before .loop .top) (c .before .before .before .before .before .before .before .before .before .before .loop .stack))) (c .before .before .before .before .before .before .before .before .before .before .before .before .before .before .before .before .args .n - c .before .before .before .before .before .before .before .before .before .before .loop .i) (c .lowest .result)
+pick : (c : tie.After-lowest Inv-loop μ-loop) → Picked plain (λ a. a) (tablesOf (c .before .before .before .before .before .before .before .before .before .before .before .before .before .before .before .args .cells .now)) (Brings (tablesOf (c .before .before .before .before .before .before .before .before .before .before .before .before .before .before .before .args .cells .now)) (c .before .before .before .before .before .before .before .before .before .before .before .before .before .before .before .args .z) (Tops (c .before .before .before .before .before .before .before .before .before .before .before .before .before .before .before .args .s)) (reverse (take (c .before .before .before .before .before .before .before .before .before .before .before .before .before .before .before .args .depth) (c .before .before .before .before .before .before .before .before .before .before .before .before .before .before .before .args .stack .now)))) (c .before .before .before .before .before .before .before .before .before .loop .inv .3 .word) (reverse (take (c .before .before .before .before .before .before .before .before .before .loop .top) (c .before .before .before .before .before .before .before .before .before .loop .stack))) (c .before .before .before .before .before .before .before .before .before .before .before .before .before .before .before .args .n - c .before .before .before .before .before .before .before .before .before .loop .i) (c .lowest .result)
 pick c =
-    let p = c .before .before .before .before .before .before .before .before .before .before .before .before .before .before .before .before .pre in
-    let l = c .before .before .before .before .before .before .before .before .before .before .loop .inv in
-    choosing-pick (in-range (p .0 .fitted .holds)) (p .1 .1 .0 .0) (p .1 .1 .0 .1) (terminal (p .0 .fitted .holds) (p .1 .0 .0)) (p .1 .1 .1 .1 .0 .0) (l .3) (omega (arith, c .before .before .before .before .before .before .before .before .before .loop-test .taken)) (omega (arith, p .1 .0 .1)) (omega (arith, room (c .before .before .before .before .before .before .before .before .before))) (terminals-are (p .0 .fitted .holds)) (c .lowest .ensures .1)
+    let p = c .before .before .before .before .before .before .before .before .before .before .before .before .before .before .before .pre in
+    let l = c .before .before .before .before .before .before .before .before .before .loop .inv in
+    choosing-pick (in-range (p .0 .fitted .holds)) (p .1 .1 .0 .0) (p .1 .1 .0 .1) (terminal (p .0 .fitted .holds) (p .1 .0 .0)) (p .1 .1 .1 .1 .0 .0) (l .3) (omega (arith, c .before .before .before .before .before .before .before .before .loop-test .taken)) (omega (arith, p .1 .0 .1)) (omega (arith, room (c .before .before .before .before .before .before .before .before))) (terminals-are (p .0 .fitted .holds)) (c .lowest .ensures .1)
 
 cast-buffer : tie.Need-cast-buffer Inv-loop μ-loop
-cast-buffer c = omega (arith, pick c .terminal, terminals-are (c .before .before .before .before .before .before .before .before .before .before .before .before .before .before .before .before .pre .0 .fitted .holds), c .before .before .before .before .before .before .before .before .before .before .before .before .before .before .before .before .pre .0 .fitted .holds .small .terminals)
+cast-buffer c = omega (arith, pick c .terminal, terminals-are (c .before .before .before .before .before .before .before .before .before .before .before .before .before .before .before .pre .0 .fitted .holds), c .before .before .before .before .before .before .before .before .before .before .before .before .before .before .before .pre .0 .fitted .holds .small .terminals)
 
 slice-write-buffer : tie.Need-slice-write-buffer Inv-loop μ-loop
-slice-write-buffer c = omega (arith, c .before .before .before .before .before .before .before .before .before .before .before .before .before .before .before .before .pre .1 .0, c .before .before .before .before .before .before .before .before .before .before .loop .inv .1, c .before .before .before .before .before .before .before .before .before .loop-test .taken)
+slice-write-buffer c = omega (arith, c .before .before .before .before .before .before .before .before .before .before .before .before .before .before .before .pre .1 .0, c .before .before .before .before .before .before .before .before .before .loop .inv .1, c .before .before .before .before .before .before .before .before .loop-test .taken)
 
 take-in-requires : tie.Need-take-in-requires Inv-loop μ-loop
 take-in-requires c κs =
-    let p = c .before .before .before .before .before .before .before .before .before .before .before .before .before .before .before .before .before .before .before .before .before .before .before .before .before .pre in
-    let l = c .before .before .before .before .before .before .before .before .before .before .before .before .before .before .before .before .before .before .before .loop .inv in
-    let k = pick (c .before .before .before .before .before .before .before .before .before) in
-    let e = c .before .before .before .before .before .before .before .before .before .lowest .ensures .0 in
-    (p .0, (omega (arith, k .terminal, terminals-are (p .0 .fitted .holds)), (p .1 .1 .0, ((rw (states-are (p .0 .fitted .holds)) at (l .3 .stacked), omega (arith, room (c .before .before .before .before .before .before .before .before .before .before .before .before .before .before .before .before .before .before)), k .ready), (p .1 .1 .1 .1 .1 .0, (l .4 .0, e))))))
+    let p = c .before .before .before .before .before .before .before .before .before .before .before .before .before .before .before .before .before .before .before .before .before .before .before .pre in
+    let l = c .before .before .before .before .before .before .before .before .before .before .before .before .before .before .before .before .before .loop .inv in
+    let k = pick (c .before .before .before .before .before .before .before .before) in
+    let e = c .before .before .before .before .before .before .before .before .lowest .ensures .0 in
+    (p .0, (omega (arith, k .terminal, terminals-are (p .0 .fitted .holds)), (p .1 .1 .0, ((rw (states-are (p .0 .fitted .holds)) at (l .3 .stacked), omega (arith, room (c .before .before .before .before .before .before .before .before .before .before .before .before .before .before .before .before)), k .ready), (p .1 .1 .1 .1 .1 .0, (l .4 .0, e))))))
 
 add-i : tie.Need-add-i Inv-loop μ-loop
-add-i c = omega (arith, c .before .before .before .before .before .before .before .before .before .before .before .before .before .before .before .before .before .before .before .before .before .loop-test .taken, c .before .before .before .before .before .before .before .before .before .before .before .before .before .before .before .before .before .before .before .before .before .before .before .before .before .before .before .before .pre .1 .0)
+add-i c = omega (arith, c .before .before .before .before .before .before .before .before .before .before .before .before .before .before .before .before .before .before .before .loop-test .taken, c .before .before .before .before .before .before .before .before .before .before .before .before .before .before .before .before .before .before .before .before .before .before .before .before .before .before .pre .1 .0)
 
 loop-again : tie.Need-loop-again Inv-loop μ-loop
 loop-again c =
-    let l = c .before .before .before .before .before .before .before .before .before .before .before .before .before .before .before .before .before .before .before .before .before .before .loop .inv in
-    let t = c .before .before .before .before .before .before .before .before .before .before .before .before .before .before .before .before .before .before .before .before .before .loop-test .taken in
+    let l = c .before .before .before .before .before .before .before .before .before .before .before .before .before .before .before .before .before .before .before .before .loop .inv in
+    let t = c .before .before .before .before .before .before .before .before .before .before .before .before .before .before .before .before .before .before .before .loop-test .taken in
     let e = c .before .before .take-in .ensures in
-    (omega arith, simp length-set (l .1), e .1 .size ∙ l .2, rw (one-less _ _ t) (choosing-more (l .3) (pick (c .before .before .before .before .before .before .before .before .before .before .before .before)) (e .1) (omega (arith, t, c .before .before .before .before .before .before .before .before .before .before .before .before .before .before .before .before .before .before .before .before .before .before .before .before .before .before .before .before .pre .1 .0 .2))), e .0)
+    (omega arith, simp length-set (l .1), e .1 .size ∙ l .2, rw (one-less _ _ t) (choosing-more (l .3) (pick (c .before .before .before .before .before .before .before .before .before .before .before)) (e .1) (omega (arith, t, c .before .before .before .before .before .before .before .before .before .before .before .before .before .before .before .before .before .before .before .before .before .before .before .before .before .before .pre .1 .0 .2))), e .0)
 
 same-length : tie.Need-same-length Inv-loop μ-loop
 same-length c = c .before .loop .inv .2

@@ -16,10 +16,10 @@ use Rattle.search.proofs.descend.descend.Statement.{statement}
 use Rattle.search.proofs.descend.descend.Tie as tie
 
 abbrev Inv-loop : tie.InvT-loop
-Inv-loop cells d table rows togo pending stack r values₀ on₀ next₀ next-on₀ events₀ flags₀ done₀ n h₀ values on next next-on events flags done h = SearchRoom values next events flags done × (h ≤ length stack - 1) × ((a : ℕ) → Descent plain (tablesOf cells) (claimIn d table) (entryIn togo) stack a r (length stack - 1) (eventIn plain events₀ flags₀) → Descent plain (tablesOf cells) (claimIn d table) (entryIn togo) stack a r h (eventIn plain events flags))
+Inv-loop cells d table rows togo pending stack r values₀ on₀ next₀ next-on₀ events₀ done₀ n h₀ values on next next-on events done h = SearchRoom values next events done × (h ≤ length stack - 1) × ((a : ℕ) → Descent plain (tablesOf cells) (claimIn d table) (entryIn togo) stack a r (length stack - 1) (eventIn plain events₀) → Descent plain (tablesOf cells) (claimIn d table) (entryIn togo) stack a r h (eventIn plain events))
 
 abbrev μ-loop : tie.MeasureT-loop
-μ-loop cells d table rows togo pending stack r values₀ on₀ next₀ next-on₀ events₀ flags₀ done₀ n h₀ values on next next-on events flags done h = h
+μ-loop cells d table rows togo pending stack r values₀ on₀ next₀ next-on₀ events₀ done₀ n h₀ values on next next-on events done h = h
 
 sub-h : tie.Need-sub-h Inv-loop μ-loop
 sub-h c = omega (arith, c .before .before .before .before .pre .1 .0 .0)
@@ -50,19 +50,19 @@ sub-settle-2 : tie.Need-sub-settle-2 Inv-loop μ-loop
 sub-settle-2 c = omega (arith, c .before .loop-test .taken, c .before .before .loop .inv .1)
 
 settle-requires : tie.Need-settle-requires Inv-loop μ-loop
-settle-requires c κs = let p = c .before .before .before .before .before .before .before .before .before .before .before .before .before .before .pre in (p .0, ((state (c .before .before .before .before .before .before .before .before), omega arith, p .1 .0 .1), (p .1 .1 .1 .0, c .before .before .before .before .before .before .before .before .before .loop .inv .0)))
+settle-requires c κs = let p = c .before .before .before .before .before .before .before .before .before .before .before .before .before .pre in (p .0, ((state (c .before .before .before .before .before .before .before), omega arith, p .1 .0 .1), (p .1 .1 .1 .0, c .before .before .before .before .before .before .before .before .loop .inv .0)))
 
 returns : tie.Need-returns Inv-loop μ-loop
-returns c = let f = c .before .settle .ensures in (f .0, λ a t. descent-hit (c .before .before .before .before .before .before .before .before .before .before .before .loop .inv .2 a t) (omega (arith, c .before .before .before .before .before .before .before .before .before .before .loop-test .taken)) refl refl (c .if1 .taken) (f .1))
+returns c = let f = c .before .settle .ensures in (f .0, λ a t. descent-hit (c .before .before .before .before .before .before .before .before .before .before .loop .inv .2 a t) (omega (arith, c .before .before .before .before .before .before .before .before .before .loop-test .taken)) refl refl (c .if1 .taken) (f .1))
 
 sub-h-2 : tie.Need-sub-h-2 Inv-loop μ-loop
-sub-h-2 c = omega (arith, c .before .before .before .before .before .before .before .before .before .before .loop-test .taken)
+sub-h-2 c = omega (arith, c .before .before .before .before .before .before .before .before .before .loop-test .taken)
 
 loop-less : tie.Need-loop-less Inv-loop μ-loop
-loop-less c = omega (arith, c .before .before .before .before .before .before .before .before .before .before .loop-test .taken)
+loop-less c = omega (arith, c .before .before .before .before .before .before .before .before .before .loop-test .taken)
 
 loop-again : tie.Need-loop-again Inv-loop μ-loop
-loop-again c = let f = c .before .settle .ensures in (f .0, omega (arith, c .before .before .before .before .before .before .before .before .before .before .before .loop .inv .1), λ a t. descent-more (c .before .before .before .before .before .before .before .before .before .before .before .loop .inv .2 a t) (omega (arith, c .before .before .before .before .before .before .before .before .before .before .loop-test .taken)) refl refl (c .if1 .left) (f .1))
+loop-again c = let f = c .before .settle .ensures in (f .0, omega (arith, c .before .before .before .before .before .before .before .before .before .before .loop .inv .1), λ a t. descent-more (c .before .before .before .before .before .before .before .before .before .before .loop .inv .2 a t) (omega (arith, c .before .before .before .before .before .before .before .before .before .loop-test .taken)) refl refl (c .if1 .left) (f .1))
 
 returns-2 : tie.Need-returns-2 Inv-loop μ-loop
 returns-2 c = let l = c .before .loop .inv in (l .0, λ a t. descent-done (l .2 a t) (omega (arith, c .before .before .before .before .before .before .pre .1 .0 .1)) (c .loop-test .left))

@@ -15,23 +15,23 @@ use Rattle.search.proofs.settle.column_waiting.Statement.{statement}
 use Rattle.search.proofs.settle.column_waiting.Tie as tie
 
 abbrev Inv-loop : tie.InvT-loop
-Inv-loop events flags done t at x row c₀ c = (c ≤ t) × ((k : ℕ) → k < c → getD done (x * 32 + k) 0 ≤ eventIn plain events flags (at * 32 + x) k)
+Inv-loop events done t at x row c₀ c = (c ≤ t) × ((k : ℕ) → k < c → getD done (x * 32 + k) 0 ≤ eventIn plain events (at * 32 + x) k)
 
 abbrev μ-loop : tie.MeasureT-loop
-μ-loop events flags done t at x row c₀ c = t - c
+μ-loop events done t at x row c₀ c = t - c
 
 returns : tie.Need-returns Inv-loop μ-loop
-returns c = column-none _ _ _ _ _ (le-refl _) (c .before .before .pre .1) (λ k l. row-dark plain (c .before .before .args .events .now) (c .before .before .args .flags .now) (c .before .before .args .at) (c .before .before .args .x) (c .before .before .pre .0 .2) (inl (c .if1 .taken)) k)
+returns c = column-none _ _ _ _ _ (le-refl _) (c .before .before .pre .1) (λ k l. row-dark plain (c .before .before .args .events .now) (c .before .before .args .at) (c .before .before .args .x) (c .before .before .pre .0 .2) (inl (c .if1 .taken)) k)
 
 returns-2 : tie.Need-returns-2 Inv-loop μ-loop
-returns-2 c = column-none _ _ _ _ _ (le-refl _) (c .before .before .before .before .pre .1) (λ k l. row-dark plain (c .before .before .before .before .args .events .now) (c .before .before .before .before .args .flags .now) (c .before .before .before .before .args .at) (c .before .before .before .before .args .x) (c .before .before .before .before .pre .0 .2) (inr (c .if2 .taken)) k)
+returns-2 c = column-none _ _ _ _ _ (le-refl _) (c .before .before .before .before .pre .1) (λ k l. row-dark plain (c .before .before .before .before .args .events .now) (c .before .before .before .before .args .at) (c .before .before .before .before .args .x) (c .before .before .before .before .pre .0 .2) (inr (c .if2 .taken)) k)
 
 loop-holds : tie.Need-loop-holds Inv-loop μ-loop
 loop-holds c = (omega arith, λ k h. absurd (omega arith))
 
 -- the cell of this turn, as it is read
-cell : (c : tie.After-if32 Inv-loop μ-loop) → eventIn plain (c .before .before .before .before .before .before .before .args .events .now) (c .before .before .before .before .before .before .before .args .flags .now) (c .before .before .before .before .before .before .before .args .at * 32 + c .before .before .before .before .before .before .before .args .x) (c .before .before .loop .c) ≡ getD (c .before .before .before .before .before .before .before .args .events .now) ((c .before .before .before .before .before .before .before .args .at * 32 + c .before .before .before .before .before .before .before .args .x) * 32 + c .before .before .loop .c) 0
-cell c = row-read plain (c .before .before .before .before .before .before .before .args .events .now) (c .before .before .before .before .before .before .before .args .flags .now) (c .before .before .before .before .before .before .before .args .at) (c .before .before .before .before .before .before .before .args .x) (c .before .before .before .before .before .before .before .pre .0 .2) (c .before .before .before .before .before .if1 .left) (c .before .before .before .if2 .left) (c .before .before .loop .c)
+cell : (c : tie.After-if32 Inv-loop μ-loop) → eventIn plain (c .before .before .before .before .before .before .before .args .events .now) (c .before .before .before .before .before .before .before .args .at * 32 + c .before .before .before .before .before .before .before .args .x) (c .before .before .loop .c) ≡ getD (c .before .before .before .before .before .before .before .args .events .now) ((c .before .before .before .before .before .before .before .args .at * 32 + c .before .before .before .before .before .before .before .args .x) * 32 + c .before .before .loop .c) 0
+cell c = row-read plain (c .before .before .before .before .before .before .before .args .events .now) (c .before .before .before .before .before .before .before .args .at) (c .before .before .before .before .before .before .before .args .x) (c .before .before .before .before .before .before .before .pre .0 .2) (c .before .before .before .before .before .if1 .left) (c .before .before .before .if2 .left) (c .before .before .loop .c)
 
 returns-3 : tie.Need-returns-3 Inv-loop μ-loop
 returns-3 c = record { lower = λ h. rw (cell (c .before .before)) (c .if3 .taken); none = λ h k l. absurd (omega (arith, c .before .before .before .loop-test .taken, h)) }
@@ -52,6 +52,7 @@ column-waiting-spec =
     (λ c. search needs)
     (λ c. search needs)
     returns
+    (λ c. search needs)
     (λ c. search needs)
     (λ c. search needs)
     (λ c. search needs)

@@ -11,16 +11,16 @@ use Rattle.waiting.proofs.events.lower.Tie as tie
 
 turn-on-requires : tie.Need-turn-on-requires
 turn-on-requires c κs =
-    let p = c .before .before .before .before .before .pre in
-    let k : (c .before .before .before .before .before .args .k * 32 + c .before .before .before .before .before .args .x) / 32 ≡ c .before .before .before .before .before .args .k = omega (arith, p .0) in
-    let o = c .before .before .open-depth .ensures in
+    let p = c .before .before .before .pre in
+    let k : (c .before .before .before .args .k * 32 + c .before .before .before .args .x) / 32 ≡ c .before .before .before .args .k = omega (arith, p .0) in
+    let o = c .before .open-depth .ensures in
     ((omega (arith, p .0), rw k (o .1 .on)), o .0)
 
 returns : tie.Need-returns
 returns c =
+    let p = c .before .before .before .before .before .before .pre in
     let o = c .before .before .turn-on .ensures in
-    let d = c .before .before .before .before .before .open-depth .ensures .1 in
-    (record { size = simp length-set (o .0 .size); count = o .0 .count }, step-from (d .same) (step-row _ _ _ _ _ (o .1) (step-least _ _ _ _ _ _ _ (c .before .before .before .before .before .before .before .before .pre .0 .2) (omega (arith, o .0 .size, c .before .before .before .before .before .before .before .before .pre .0)) (c .least .ensures) refl refl)))
+    (simp length-set (o .0), step-from (c .before .before .before .before .open-depth .ensures .1 .same) (step-row _ _ _ (omega (arith, p .0)) (p .0 .2) (o .1) (step-least _ _ _ _ _ _ _ (p .0 .2) (omega (arith, o .0, p .0)) (c .least .ensures) refl refl)))
 
 pub lower-spec : {M : Type 1} → statement M
 lower-spec =

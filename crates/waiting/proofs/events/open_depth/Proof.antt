@@ -8,11 +8,20 @@ use Rattle.waiting.proofs.events.open_depth.Statement.{statement}
 use Rattle.waiting.proofs.events.open_depth.Tie as tie
 
 returns-2 : tie.Need-returns-2
-returns-2 c =
-    let p = c .before .before .before .before .pre in
-    (record { size = p .1 .size; count = simp length-set (rw (c .fill .ensures) (filled-size _ _ _ _ ∙ p .1 .count)) }, depth-cleared _ _ (p .0) (p .1 .count) (c .before .before .if1 .left) (c .fill .ensures))
+returns-2 c = let p = c .before .before .before .before .pre in (simp length-set (rw (c .fill .ensures) (filled-size _ _ _ _ ∙ p .1)), depth-cleared _ (c .before .before .before .before .args .events .now) (p .0) (p .1) (c .before .before .if1 .left) (c .fill .ensures))
 
 pub open-depth-spec : {M : Type 1} → statement M
 open-depth-spec =
     tie.close
-    (tie.spec (λ c. search needs) (λ c. search needs) (λ c. search needs) (λ c. search needs) (λ c. search needs) (λ c κs. search needs) (λ c. search needs) (λ c. search needs) (λ c. search needs) returns-2)
+    (tie.spec
+    (λ c. search needs)
+    (λ c. search needs)
+    (λ c. search needs)
+    (λ c. search needs)
+    (λ c. search needs)
+    (λ c. search needs)
+    (λ c κs. search needs)
+    (λ c. search needs)
+    (λ c. search needs)
+    (λ c. search needs)
+    returns-2)

@@ -10,15 +10,15 @@ use Rattle.waiting.proofs.events.waiting_at.Statement.{statement}
 use Rattle.waiting.proofs.events.waiting_at.Tie as tie
 
 returns : tie.Need-returns
-returns c = sym (row-dark plain (c .before .before .args .events .now) (c .before .before .args .flags .now) (c .before .before .args .at) (c .before .before .args .i / 32) (omega (arith, c .before .before .pre .1)) (inl (c .if1 .taken)) (c .before .before .args .i % 32))
+returns c = sym (row-dark plain (c .before .before .args .events .now) (c .before .before .args .at) (c .before .before .args .i / 32) (omega (arith, c .before .before .pre .1)) (inl (c .if1 .taken)) (c .before .before .args .i % 32))
 
 returns-2 : tie.Need-returns-2
-returns-2 c = sym (row-dark plain (c .before .before .before .before .args .events .now) (c .before .before .before .before .args .flags .now) (c .before .before .before .before .args .at) (c .before .before .before .before .args .i / 32) (omega (arith, c .before .before .before .before .pre .1)) (inr (c .if2 .taken)) (c .before .before .before .before .args .i % 32))
+returns-2 c = sym (row-dark plain (c .before .before .before .before .args .events .now) (c .before .before .before .before .args .at) (c .before .before .before .before .args .i / 32) (omega (arith, c .before .before .before .before .pre .1)) (inr (c .if2 .taken)) (c .before .before .before .before .args .i % 32))
 
 returns-3 : tie.Need-returns-3
 returns-3 c =
     let cell : c .before .before .before .before .before .args .at * 1024 + c .before .before .before .before .before .args .i ≡ (c .before .before .before .before .before .args .at * 32 + c .before .before .before .before .before .args .i / 32) * 32 + c .before .before .before .before .before .args .i % 32 = omega arith in
-    rw cell (sym (row-read plain (c .before .before .before .before .before .args .events .now) (c .before .before .before .before .before .args .flags .now) (c .before .before .before .before .before .args .at) (c .before .before .before .before .before .args .i / 32) (omega (arith, c .before .before .before .before .before .pre .1)) (c .before .before .before .if1 .left) (c .before .if2 .left) (c .before .before .before .before .before .args .i % 32)))
+    rw cell (sym (row-read plain (c .before .before .before .before .before .args .events .now) (c .before .before .before .before .before .args .at) (c .before .before .before .before .before .args .i / 32) (omega (arith, c .before .before .before .before .before .pre .1)) (c .before .before .before .if1 .left) (c .before .if2 .left) (c .before .before .before .before .before .args .i % 32)))
 
 pub waiting-at-spec : {M : Type 1} → statement M
 waiting-at-spec =
@@ -28,6 +28,7 @@ waiting-at-spec =
     (λ c. search needs)
     (λ c. search needs)
     returns
+    (λ c. search needs)
     (λ c. search needs)
     (λ c. search needs)
     (λ c. search needs)

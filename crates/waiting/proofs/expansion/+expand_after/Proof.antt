@@ -21,15 +21,15 @@ use Rattle.waiting.proofs.expansion.+expand_after.{statement}
 use Rattle.waiting.proofs.expansion.+expand_after.Tie.{close}
 
 -- how many layers there can still be
-abbrev μ : Measures 10 expand-after-kinds.ps ℕ
+abbrev μ : Measures 9 expand-after-kinds.ps ℕ
 μ κs a = 31 - a .1 .1 .1 .1 .1 .1 .1 .0
 
 -- what is given at the measure t, and what the call of itself asks below t
-abbrev at : ℕ → In 10 expand-after-kinds.ps
-at t = and 10 expand-after-kinds.ps (is 10 expand-after-kinds.ps μ t) expand-after.Pre
+abbrev at : ℕ → In 9 expand-after-kinds.ps
+at t = and 9 expand-after-kinds.ps (is 9 expand-after-kinds.ps μ t) expand-after.Pre
 
-abbrev below : ℕ → In 10 expand-after-kinds.ps
-below t = and 10 expand-after-kinds.ps (falls 10 expand-after-kinds.ps _<_ μ t) expand-after.Pre
+abbrev below : ℕ → In 9 expand-after-kinds.ps
+below t = and 9 expand-after-kinds.ps (falls 9 expand-after-kinds.ps _<_ μ t) expand-after.Pre
 
 -- what is asked and told by the functions that it calls
 abbrev calls : ℕ → lts.Claims
@@ -55,22 +55,22 @@ returns-2 t c =
     )
 
 pop-layer-requires : (t : ℕ) → lts.Need-pop-layer-requires (calls t) (at t) expand-after.Post
-pop-layer-requires t c κs = let p = c .before .before .before .before .before .before .before .before .before .before .before .before .before .before .before .before .before .pre .1 in (p .0 .fitted .holds, ((p .1 .0 .0, p .1 .0 .1, c .before .before .before .before .before .before .before .lengthen-within .ensures .0 .listed), p .1 .1 .1 .1))
+pop-layer-requires t c κs = let p = c .before .before .before .before .before .before .before .before .before .before .before .before .before .before .before .before .pre .1 in (p .0 .fitted .holds, ((p .1 .0 .0, p .1 .0 .1, c .before .before .before .before .before .before .lengthen-within .ensures .0 .listed), p .1 .1 .1 .1))
 
 expand-after-requires : (t : ℕ) → lts.Need-expand-after-requires (calls t) (at t) expand-after.Post
 expand-after-requires t c κs =
-    let p = c .before .before .before .before .before .before .before .before .before .before .before .before .before .before .before .before .before .before .before .before .before .before .before .before .pre .1 in
-    let e = c .before .before .before .before .before .before .before .before .before .before .before .before .before .before .lengthen-within .ensures .0 in
-    (omega (arith, c .before .before .before .before .before .before .before .before .before .before .before .before .before .before .before .before .before .before .before .before .before .before .before .before .pre .0, c .before .before .before .before .before .before .before .before .before .before .before .before .before .before .before .before .before .before .before .before .if1 .left), (p .0, (p .1 .0, (p .1 .1 .0, (record { first = e .size; second = p .1 .1 .1 .0 .first }, c .before .before .before .before .before .before .pop-layer .ensures .0, e .listed)))))
+    let p = c .before .before .before .before .before .before .before .before .before .before .before .before .before .before .before .before .before .before .before .before .before .before .pre .1 in
+    let e = c .before .before .before .before .before .before .before .before .before .before .before .before .lengthen-within .ensures .0 in
+    (omega (arith, c .before .before .before .before .before .before .before .before .before .before .before .before .before .before .before .before .before .before .before .before .before .before .pre .0, c .before .before .before .before .before .before .before .before .before .before .before .before .before .before .before .before .before .before .if1 .left), (p .0, (p .1 .0, (p .1 .1 .0, (record { first = e .size; second = p .1 .1 .1 .0 .first }, c .before .before .before .before .before .pop-layer .ensures .0, e .listed)))))
 
 returns-3 : (t : ℕ) → lts.Need-returns-3 (calls t) (at t) expand-after.Post
 returns-3 t c =
-    let p = c .before .before .before .before .before .before .before .before .before .before .before .before .before .before .before .before .before .before .before .before .before .before .before .before .before .pre .1 in
+    let p = c .before .before .before .before .before .before .before .before .before .before .before .before .before .before .before .before .before .before .before .before .before .before .before .pre .1 in
     let e = c .expand-after .ensures in (
       (record { first = e .0 .0 .second; second = e .0 .0 .first }, e .0 .1),
       λ g a l.
-          let next = layer-next (p .0 .fitted .holds) (p .1 .1 .0) l (c .before .before .before .before .before .before .before .before .before .before .before .before .before .before .before .lengthen-within .ensures .1) in
-          expands-more (c .before .before .before .before .before .before .before .before .before .before .before .before .before .before .before .before .before .before .before .before .before .before .before .before .before .args .at) (step-layer (p .0 .fitted .holds) (p .1 .1 .0) (c .before .before .before .before .before .before .before .before .before .before .before .before .before .before .before .before .before .before .before .before .before .before .before .before .before .args .at) (p .1 .0 .1) (p .1 .0 .3) next (c .before .before .before .before .before .before .before .pop-layer .ensures .1)) (e .1 g a next),
+          let next = layer-next (p .0 .fitted .holds) (p .1 .1 .0) l (c .before .before .before .before .before .before .before .before .before .before .before .before .before .lengthen-within .ensures .1) in
+          expands-more (c .before .before .before .before .before .before .before .before .before .before .before .before .before .before .before .before .before .before .before .before .before .before .before .args .at) (step-layer (p .0 .fitted .holds) (p .1 .1 .0) (c .before .before .before .before .before .before .before .before .before .before .before .before .before .before .before .before .before .before .before .before .before .before .before .args .at) (p .1 .0 .1) (p .1 .0 .3) next (c .before .before .before .before .before .before .pop-layer .ensures .1)) (e .1 g a next),
     )
 
 pub +expand-after-spec : {M : Type 1} → statement M
@@ -86,6 +86,6 @@ pub +expand-after-spec : {M : Type 1} → statement M
     (returns-2 t)
     (λ c. omega (arith, c .before .before .before .before .before .before .before .before .before .if1 .left))
     (pop-layer-requires t)
-    (λ c. omega (arith, c .before .before .before .before .before .before .before .before .before .before .before .before .before .before .if1 .left))
+    (λ c. omega (arith, c .before .before .before .before .before .before .before .before .before .before .before .before .before .if1 .left))
     (expand-after-requires t)
     (returns-3 t)

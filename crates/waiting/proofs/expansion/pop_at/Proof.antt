@@ -11,10 +11,10 @@ returns : tie.Need-returns
 returns c = let a = c .before .before .args in (c .before .before .pre .1 .1, step-beyond (tablesOf (a .cells .now)) (a .at) (a .m) (a .r) (a .q) (a .c) (a .w) (c .if1 .taken))
 
 pop-requires : tie.Need-pop-requires
-pop-requires c κs = let p = c .before .before .before .before .before .before .before .before .pre in (p .0, ((reduce-below _ _ (p .0) (c .before .before .before .before .before .action-at .ensures) (c .before .before .before .p .given .1), p .1 .0 .1, p .1 .0 .2), p .1 .1))
+pop-requires c κs = let p = c .before .before .before .before .before .before .before .pre in (p .0, ((reduce-below _ _ (p .0) (c .before .before .before .before .action-at .ensures) (c .before .before .p .given .1), p .1 .0 .1, p .1 .0 .2), p .1 .1))
 
 returns-2 : tie.Need-returns-2
-returns-2 c = let a = c .before .before .before .before .before .before .before .before .before .args in (c .pop .ensures .0, expand-reduce (tablesOf (a .cells .now)) (a .at) (a .m) (a .r) (a .q) (a .c) (a .w) (c .before .before .before .before .before .before .before .if1 .left) (sym (c .before .before .before .before .before .before .action-at .ensures) ∙ c .before .before .before .before .p .given .1) (c .pop .ensures .1))
+returns-2 c = let a = c .before .before .before .before .before .before .before .before .args in (c .pop .ensures .0, expand-reduce (tablesOf (a .cells .now)) (a .at) (a .m) (a .r) (a .q) (a .c) (a .w) (c .before .before .before .before .before .before .if1 .left) (sym (c .before .before .before .before .before .action-at .ensures) ∙ c .before .before .before .p .given .1) (c .pop .ensures .1))
 
 returns-3 : tie.Need-returns-3
 returns-3 c = let a = c .before .before .before .before .before .args in (c .before .before .before .before .before .pre .1 .1, step-error (tablesOf (a .cells .now)) (a .at) (a .m) (a .r) (a .q) (a .c) (a .w) (c .before .before .action-at .ensures) (c .enum-told .given .1))

@@ -16,7 +16,7 @@ filled n = length-replicate {A = ℕ} n (unreached plain)
 
 choose-requires : tie.Need-choose-requires
 choose-requires c κs =
-    let p = c .before .before .before .before .before .before .before .before .before .before .before .before .before .before .before .before .before .pre in
+    let p = c .before .before .before .before .before .before .before .before .before .before .before .before .before .before .before .before .pre in
     let h = p .0 in
     let t = p .1 .0 .0 in
     let room = p .1 .1 .1 .1 in (
@@ -28,8 +28,8 @@ choose-requires c κs =
           (
             (start-stacked (h .small .some-state) (room .1), room .0),
             (
-              (p .1 .1 .0 .0, start-exact (in-range h) (c .before .before .before .before .before .before .before .before .before .before .before .before .before .before .before .before .before .args .stack .now) (omega (arith, room .0)) (room .1) (p .1 .1 .0 .1)),
-              (record { range = in-range h; positions = c .before .before .before .before .before .before .before .before .before .before .before .mark-all .ensures }, (filled 4096, record { layers = record { first = filled 4096; second = filled 4096 }; rows = record { size = filled 32768; count = length-replicate {A = ℕ} 1056 0 }; followed = filled 1024 })),
+              (p .1 .1 .0 .0, start-exact (in-range h) (c .before .before .before .before .before .before .before .before .before .before .before .before .before .before .before .before .args .stack .now) (omega (arith, room .0)) (room .1) (p .1 .1 .0 .1)),
+              (record { range = in-range h; positions = c .before .before .before .before .before .before .before .before .before .before .mark-all .ensures }, (filled 4096, record { layers = record { first = filled 4096; second = filled 4096 }; rows = length-replicate {A = ℕ} 33824 0; followed = filled 1024 })),
             ),
           ),
         ),
@@ -38,9 +38,9 @@ choose-requires c κs =
 
 returns : tie.Need-returns
 returns c =
-    let p = c .before .before .before .before .before .before .before .before .before .before .before .before .before .before .before .before .before .before .before .before .before .before .pre in
+    let p = c .before .before .before .before .before .before .before .before .before .before .before .before .before .before .before .before .before .before .before .before .before .pre in
     let room = p .1 .1 .1 .1 in
-    start-chose (in-range (p .0)) (c .before .before .before .before .before .before .before .before .before .before .before .before .before .before .before .before .before .before .before .before .before .before .args .stack .now) (omega (arith, room .0)) (room .1) (c .before .before .before .before .choose .ensures)
+    start-chose (in-range (p .0)) (c .before .before .before .before .before .before .before .before .before .before .before .before .before .before .before .before .before .before .before .before .before .args .stack .now) (omega (arith, room .0)) (room .1) (c .before .before .before .before .choose .ensures)
 
 pub write-over-spec : {M : Type 1} → statement M
 write-over-spec =
