@@ -1,9 +1,8 @@
 -- The gotos that wait while the search works down a stack: a table of their costs, and what is known at each depth. Assumes nothing.
 use mathlib.Core.Bool.{cond}
 use mathlib.Core.List.{List}
-use mathlib.Core.Logic.{_⊎_}
 use mathlib.Core.Path.{_≡_}
-use Prim.Native.Nat.{ℕ, suc, _+_, _-_, _*_, _/_, _%_, _≤_, _<_}
+use Prim.Native.Nat.{ℕ, _+_, _-_, _*_, _/_, _%_, _≤_, _<_}
 use lib.Dec.{eqb}
 use lib.ListN.{length, getD}
 use Rattle.book.specs.Tables.{Tables}
@@ -15,7 +14,7 @@ use Rattle.walk.specs.Claims.{Claims}
 use Rattle.walk.specs.Sum.{plus}
 use Rattle.layers.specs.Layer.{entryIn}
 use Rattle.layers.specs.Step.{Upto}
-use Rattle.waiting.specs.Completes.{Pops, Stands, Event}
+use Rattle.waiting.specs.Completes.{Pops}
 
 -- a row and a column of the table fit every production and terminal
 pub record Narrow (B : Tables) : Type 0 where
