@@ -1,4 +1,4 @@
--- The gotos that wait while the search works down a stack: a table of their costs, and what is known at each depth. Assumes nothing.
+-- The gotos that wait while the search works down a stack: the table of their costs, and what is put into it. Assumes nothing.
 use mathlib.Core.Bool.{cond}
 use mathlib.Core.List.{List}
 use mathlib.Core.Path.{_≡_}
