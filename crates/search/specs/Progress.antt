@@ -28,4 +28,3 @@ pub record Settling (σ : Scale) (B : Tables) (claim : Claims) (G : ℕ → ℕ 
   pub seen : (X c : ℕ) {g k Y z w : ℕ} → X < B .nonterminals → c < 32 → B .goto (getD st j 0) X ≡ suc g → entryIn done X c < unreached σ
       → Pops σ B claim g c (entryIn done X c) k Y z w → w ≤ r → waitingIn T (j + k) Y z ≤ w
   pub refused : (X c : ℕ) {g : ℕ} → X < B .nonterminals → c < 32 → B .goto (getD st j 0) X ≡ suc g → entryIn done X c < unreached σ → r < plus σ (entryIn done X c) (G g c)
-  pub most : (X c : ℕ) → X < B .nonterminals → c < 32 → entryIn done X c ≤ unreached σ

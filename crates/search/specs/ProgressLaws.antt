@@ -84,7 +84,6 @@ module _ {σ : Scale} {B : Tables} {claim : Claims} {G : ℕ → ℕ → ℕ} {q
     progress = p;
     seen = λ X c hX hc g u. absurd (omega (arith, at X c hX hc));
     refused = λ X c hX hc g u. absurd (omega (arith, at X c hX hc));
-    most = λ X c hX hc. omega (arith, at X c hX hc);
   }
     where
       at : (X c : ℕ) → X < B .nonterminals → c < 32 → getD done (X * 32 + c) 0 ≡ unreached σ
@@ -96,7 +95,7 @@ module _ {σ : Scale} {B : Tables} {claim : Claims} {G : ℕ → ℕ → ℕ} {q
 
 -- one goto is followed, or is none
 module _ {σ : Scale} {B : Tables} {claim : Claims} {G : ℕ → ℕ → ℕ} {q a r j : ℕ} {st done : List ℕ} {T : ℕ → ℕ → ℕ} (X c v : ℕ) (s : Settling σ B claim G q st a r j T done)
-    (n : Narrow B) (hX : X < B .nonterminals) (hc : c < 32) (size : length done ≡ 1024) (ev : v ≡ waitingIn T j X c) (low : v < entryIn done X c) where
+    (n : Narrow B) (hX : X < B .nonterminals) (hc : c < 32) (size : length done ≡ 1024) (most : entryIn done X c ≤ unreached σ) (ev : v ≡ waitingIn T j X c) (low : v < entryIn done X c) where
   settling-set : {T′ : ℕ → ℕ → ℕ} → Progress σ B claim G q st a r j T′ → ((d Y z : ℕ) → z < 32 → waitingIn T′ d Y z ≤ waitingIn T d Y z)
       → ((g k Y z w : ℕ) → B .goto (getD st j 0) X ≡ suc g → Pops σ B claim g c v k Y z w → w ≤ r → waitingIn T′ (j + k) Y z ≤ w)
       → ((g : ℕ) → B .goto (getD st j 0) X ≡ suc g → r < plus σ v (G g c)) → Settling σ B claim G q st a r j T′ (set done (X * 32 + c) v)
@@ -105,7 +104,6 @@ module _ {σ : Scale} {B : Tables} {claim : Claims} {G : ℕ → ℕ → ℕ} {q
     progress = p;
     seen = λ X′ c′ hX′ hc′ g u p l. seen X′ c′ hX′ hc′ g u p l (ℕ-discrete (X′ * 32 + c′) (X * 32 + c));
     refused = λ X′ c′ hX′ hc′ g u. refused X′ c′ hX′ hc′ g u (ℕ-discrete (X′ * 32 + c′) (X * 32 + c));
-    most = λ X′ c′ hX′ hc′. most X′ c′ hX′ hc′ (ℕ-discrete (X′ * 32 + c′) (X * 32 + c));
   }
     where
       here : (k : ℕ) → k ≡ X * 32 + c → getD (set done (X * 32 + c) v) k 0 ≡ v
@@ -131,10 +129,6 @@ module _ {σ : Scale} {B : Tables} {claim : Claims} {G : ℕ → ℕ → ℕ} {q
           let same = getD-set-other done (X * 32 + c) (X′ * 32 + c′) v 0 m in
           rw same (s .refused X′ c′ hX′ hc′ g (omega arith))
 
-      most : (X′ c′ : ℕ) → X′ < B .nonterminals → c′ < 32 → Dec (X′ * 32 + c′ ≡ X * 32 + c) → getD (set done (X * 32 + c) v) (X′ * 32 + c′) 0 ≤ unreached σ
-      most X′ c′ hX′ hc′ (yes e) = omega (arith, here (X′ * 32 + c′) e, s .most X c hX hc)
-      most X′ c′ hX′ hc′ (no m) = omega (arith, getD-set-other done (X * 32 + c) (X′ * 32 + c′) v 0 m, s .most X′ c′ hX′ hc′)
-
   -- there is no such goto
   pub settling-pass : B .goto (getD st j 0) X ≡ 0 → Settling σ B claim G q st a r j T (set done (X * 32 + c) v)
   settling-pass none = settling-set (s .progress) (λ d Y z h. le-refl _) (λ g k Y z w e p l. absurd (omega arith)) (λ g e. absurd (omega arith))
@@ -142,7 +136,7 @@ module _ {σ : Scale} {B : Tables} {claim : Claims} {G : ℕ → ℕ → ℕ} {q
   -- the goto is one that waits
   pub settling-event : Event σ B claim q st a j X c v × (v ≤ r)
   settling-event = ⊎-elim
-      (λ e. absurd (omega (arith, s .most X c hX hc)))
+      (λ e. absurd (omega arith))
       (λ x. rw ev x)
       (s .progress .attained j X c (omega (arith, n .nonterminals)) hc (le-refl j) (omega arith))
 

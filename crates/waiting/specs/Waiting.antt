@@ -4,7 +4,7 @@ use mathlib.Core.List.{List}
 use mathlib.Core.Path.{_≡_}
 use Prim.Native.Nat.{ℕ, _+_, _-_, _*_, _/_, _%_, _≤_, _<_}
 use lib.Dec.{eqb}
-use lib.ListN.{length, getD}
+use lib.ListN.{getD}
 use Rattle.book.specs.Tables.{Tables}
 use Rattle.book.specs.TablesLaws.{InRange}
 use Rattle.book.specs.declared.Action.the-variants.{Reduce}
@@ -95,8 +95,3 @@ ExpandsFrom σ B claim d g b u r m row c w = (k X : ℕ) × (row ≡ rowOf (d + 
 -- a cost that is within r after v is within n
 pub record Allows (σ : Scale) (r v n : ℕ) : Type 0 where
   pub bound : (x : ℕ) → plus σ v x ≤ r → x ≤ n
-
--- the arrays for two layers have their lengths
-pub record Spare (values next : List ℕ) : Type 0 where
-  pub first : length values ≡ 4096
-  pub second : length next ≡ 4096

@@ -7,10 +7,10 @@ ghost use Rattle.book.specs.TablesLaws.{Holds};
 ghost use Rattle.walk.specs.Scale.{plain, long};
 ghost use Rattle.walk.specs.Layers.{LayerWhere};
 ghost use Rattle.layers.specs.Crossing.{claimIn, Usable};
-ghost use Rattle.layers.specs.Layer.{valueIn};
+ghost use Rattle.layers.specs.Layer.{valueIn, Scratch};
 ghost use Rattle.layers.specs.States.{flagIn, Listed};
 ghost use Rattle.layers.specs.Step.{TableStep};
-ghost use Rattle.waiting.specs.Waiting.{eventIn, Expands, Popped, Reduces, ReducesState, ReducesLayer, ExpandsFrom, Allows, Spare};
+ghost use Rattle.waiting.specs.Waiting.{eventIn, Expands, Popped, Reduces, ReducesState, ReducesLayer, ExpandsFrom, Allows};
 ghost use Rattle.waiting.specs.Pending.{Pends, Pending};
 use crate::events::lower;
 use book::Action;
@@ -167,8 +167,8 @@ fn expand_after(
     requires { ⌜ Usable plain d (now cells) (now table) (now rows) ⌝ }
     requires { ⌜ (at < 32) × (r ≤ long plain) × (bound ≤ long plain) × Allows plain r v bound ⌝ }
     requires { ⌜ Pends (tablesOf (now cells)) (now pending) ⌝ }
-    requires { ⌜ Spare (now values) (now next) × (length (now events) ≡ 33824) × Listed (d .s) (now on) ⌝ }
-    ensures { λ _. ⌜ Spare (now (values .exit)) (now (next .exit)) × (length (now (events .exit)) ≡ 33824) ⌝ }
+    requires { ⌜ Scratch (now values) (now next) × (length (now events) ≡ 33824) × Listed (d .s) (now on) ⌝ }
+    ensures { λ _. ⌜ Scratch (now (values .exit)) (now (next .exit)) × (length (now (events .exit)) ≡ 33824) ⌝ }
     ensures { λ _. ⌜ ((g a : ℕ) → LayerWhere plain (tablesOf (now (cells .entry))) (claimIn d (now (table .entry))) (Pending (now (pending .entry)) bound) g a m (valueIn plain (now (values .entry)) (now (on .entry))) → TableStep plain (ExpandsFrom plain (tablesOf (now (cells .entry))) (claimIn d (now (table .entry))) at g a v r (m + 1)) (eventIn plain (now (events .entry))) (eventIn plain (now (events .exit)))) ⌝ }
 {
     if m >= 31 {
@@ -232,8 +232,8 @@ pub fn expand(
     requires { ⌜ Usable plain d (now cells) (now table) (now rows) ⌝ }
     requires { ⌜ (g < d .s) × (a < d .t) × (at < 32) × (r ≤ long plain) ⌝ }
     requires { ⌜ Pends (tablesOf (now cells)) (now pending) ⌝ }
-    requires { ⌜ Spare (now values) (now next) × (length (now events) ≡ 33824) ⌝ }
-    ensures { λ _. ⌜ Spare (now (values .exit)) (now (next .exit)) × (length (now (events .exit)) ≡ 33824) ⌝ }
+    requires { ⌜ Scratch (now values) (now next) × (length (now events) ≡ 33824) ⌝ }
+    ensures { λ _. ⌜ Scratch (now (values .exit)) (now (next .exit)) × (length (now (events .exit)) ≡ 33824) ⌝ }
     ensures { λ _. ⌜ TableStep plain (Expands plain (tablesOf (now (cells .entry))) (claimIn d (now (table .entry))) at g a v r) (eventIn plain (now (events .entry))) (eventIn plain (now (events .exit))) ⌝ }
 {
     pop_at(cells, d, at, 0, r, g, a, v, events);

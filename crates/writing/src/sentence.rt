@@ -84,50 +84,6 @@ fn short_stack() -> [u16; 4097]
     [0u16; 4097]
 }
 
-// The same over a stack of its own, for few symbols ..
-fn write_short(
-    cells: &[u16],
-    d: Sizes,
-    table: &[u16],
-    rows: &[u8; 4096],
-    togo: &[u16; 4096],
-    s: usize,
-    z: usize,
-    n: usize,
-    buffer: &mut [u8],
-)
-    requires { ⌜ Holds d (now cells) ⌝ }
-    requires { ⌜ CrossingTable plain d (now cells) (now table) × OpenRows d (tablesOf (now cells)) (now rows) ⌝ }
-    requires { ⌜ ToPair plain (tablesOf (now cells)) (claimIn d (now table)) s z (entryIn (now togo)) × Exact plain (λ w. Reaches (tablesOf (now cells)) w z s) n ⌝ }
-    requires { ⌜ (z < d .t) × (n ≤ 32) × (n ≤ length (now buffer)) ⌝ }
-    ensures { λ _. ⌜ Chose plain (λ a. a) (λ w. Reaches (tablesOf (now (cells .entry))) w z s) n (now (buffer .entry)) (now (buffer .exit)) ⌝ }
-{
-    let mut stack = short_stack();
-    write_over(cells, d, table, rows, togo, s, z, n, &mut stack, buffer);
-}
-
-// .. and for all that a sentence may have.
-fn write_long(
-    cells: &[u16],
-    d: Sizes,
-    table: &[u16],
-    rows: &[u8; 4096],
-    togo: &[u16; 4096],
-    s: usize,
-    z: usize,
-    n: usize,
-    buffer: &mut [u8],
-)
-    requires { ⌜ Holds d (now cells) ⌝ }
-    requires { ⌜ CrossingTable plain d (now cells) (now table) × OpenRows d (tablesOf (now cells)) (now rows) ⌝ }
-    requires { ⌜ ToPair plain (tablesOf (now cells)) (claimIn d (now table)) s z (entryIn (now togo)) × Exact plain (λ w. Reaches (tablesOf (now cells)) w z s) n ⌝ }
-    requires { ⌜ (z < d .t) × (n ≤ plain .limit) × (n ≤ length (now buffer)) ⌝ }
-    ensures { λ _. ⌜ Chose plain (λ a. a) (λ w. Reaches (tablesOf (now (cells .entry))) w z s) n (now (buffer .entry)) (now (buffer .exit)) ⌝ }
-{
-    let mut stack = long_stack();
-    write_over(cells, d, table, rows, togo, s, z, n, &mut stack, buffer);
-}
-
 // The sentence of n symbols of (s, z), the least that reach it, at the front of the buffer.
 pub fn write_sentence(
     cells: &[u16],
@@ -147,8 +103,10 @@ pub fn write_sentence(
     ensures { λ _. ⌜ Chose plain (λ a. a) (λ w. Reaches (tablesOf (now (cells .entry))) w z s) n (now (buffer .entry)) (now (buffer .exit)) ⌝ }
 {
     if n <= 32 {
-        write_short(cells, d, table, rows, togo, s, z, n, buffer);
+        let mut stack = short_stack();
+        write_over(cells, d, table, rows, togo, s, z, n, &mut stack, buffer);
         return;
     }
-    write_long(cells, d, table, rows, togo, s, z, n, buffer);
+    let mut stack = long_stack();
+    write_over(cells, d, table, rows, togo, s, z, n, &mut stack, buffer);
 }

@@ -3,10 +3,11 @@ use native.Mathlib.Nat.{le-refl}
 use native.Mathlib.Omega.{arith}
 use Prim.Native.Nat.{_+_, min}
 use Rattle.walk.specs.Scale.{plain}
+use Rattle.layers.specs.Layer.{Scratch}
 use Rattle.layers.specs.Total.{total}
 use Rattle.crossings.specs.Falling.{Sunk}
 use Rattle.crossings.specs.FallingLaws.{sunk-more}
-use Rattle.crossings.specs.Pass.{TableKept, Scratch}
+use Rattle.crossings.specs.Pass.{TableKept}
 use Rattle.crossings.specs.PassLaws.{beyond-none, kept-join}
 use Rattle.crossings.specs.CrossingsLaws.{reached-begun}
 use Rattle.crossings.proofs.crossing.cross_short.Statement.{statement}

@@ -5,10 +5,11 @@ use Prim.Native.Nat.{_+_, min}
 use Rattle.book.specs.Tables.{tablesOf}
 use Rattle.walk.specs.Scale.{plain}
 use Rattle.walk.specs.Claims.{Closed}
+use Rattle.layers.specs.Layer.{Scratch}
 use Rattle.layers.specs.Crossing.{room, claimIn}
 use Rattle.crossings.specs.Crossings.{Beyond}
 use Rattle.layers.specs.Total.{total}
-use Rattle.crossings.specs.Pass.{SoundTable, Scratch}
+use Rattle.crossings.specs.Pass.{SoundTable}
 use Rattle.crossings.specs.PassLaws.{beyond-none, beyond-join, beyond-filled}
 use Rattle.crossings.specs.CrossingsLaws.{room-small, sound-filled, closed-all, table-exact}
 use borrow.Author.Needs.{needs}
