@@ -34,9 +34,7 @@
  *       (in bytes only)
  *   3   the form is not 1                                      the number's offset or index
  *   4   T, N, S or P outside its range                         the number's offset or index
- *   5   a left side, length, action or goto outside its        the number's offset or index
- *       range, a shift under terminal 0, or accept under
- *       another terminal
+ *   5   a production's left side or length outside its range   the number's offset or index
  *   6   something follows the last number                      where it begins
  *   7   a symbol is 0, or T or more                            its index; in a list, its offset
  *   8   a sentence has over 1,000 symbols                      0; in a list, the length's offset
@@ -45,6 +43,9 @@
  *   11  the lookahead is T or more                             0; in a list, its offset
  *   12  an output is too short                                 0
  *   13  work or stack cells are too few                        0
+ *   14  an action outside its range, a shift under terminal    the number's offset or index
+ *       0, or accept under another terminal
+ *   15  a goto outside its range                               the number's offset or index
  *
  * Offsets count bytes, indices count cells or symbols, all from 0.
  */
@@ -99,7 +100,7 @@ extern "C" {
 /*
  * Reads a book from bytes into the first lent cells; the cells after them keep their values.
  * Kind 1: answer[1] is how many cells were written.
- * Refusals: 1 to 6; 12 if the book has more cells than are lent.
+ * Refusals: 1 to 6, 14 and 15 as the book is read; 12 if it has more cells than are lent.
  */
 void purlquartz_read(const uint8_t *bytes, size_t byte_count,
                      uint16_t *cells, size_t cell_count,
@@ -108,7 +109,7 @@ void purlquartz_read(const uint8_t *bytes, size_t byte_count,
 /*
  * Checks the cells of a book.
  * Kind 1: answer[1] to answer[4] are T, N, S and P.
- * Refusals: 1, 3, 4, 5, 6. Every call that takes cells gives these first.
+ * Refusals: 1, 3, 4, 5, 14, 15, 6. Every call that takes cells gives these first.
  */
 void purlquartz_check(const uint16_t *cells, size_t cell_count,
                       uint64_t answer[8]);

@@ -19,7 +19,7 @@ pub const LIST_ENTRIES: usize = 128;
 /// | 2 | a number is padded, too wide, or over 65,535 | its first byte |
 /// | 3 | the form is not 1 | the number's offset or index |
 /// | 4 | T, N, S or P outside its range | the number's offset or index |
-/// | 5 | a left side, length, action or goto outside its range, a shift under terminal 0, or accept under another terminal | the number's offset or index |
+/// | 5 | a production's left side or length outside its range | the number's offset or index |
 /// | 6 | something follows the last number | where it begins |
 /// | 7 | a symbol is 0, or T or more | the symbol's index; in a list, its offset |
 /// | 8 | a sentence has over 1,000 symbols | 0; in a list, the length's offset |
@@ -28,6 +28,8 @@ pub const LIST_ENTRIES: usize = 128;
 /// | 11 | the lookahead is T or more | 0; in a list, its offset |
 /// | 12 | an output is too short | 0 |
 /// | 13 | work or stack cells are too few | 0 |
+/// | 14 | an action outside its range, a shift under terminal 0, or accept under another terminal | the number's offset or index |
+/// | 15 | a goto outside its range | the number's offset or index |
 #[derive(Clone, Copy, Debug, PartialEq, Eq)]
 pub struct Refusal {
     pub number: u16,

@@ -19,16 +19,16 @@ use foreign::Answer;
 /// Reads a book from bytes into the first lent cells, and answers how many. The cells after them
 /// keep their values.
 ///
-/// Refusals: 1 to 6 with the offset of the number's first byte; 12 if the book has more cells
-/// than are lent.
+/// Refusals: 1 to 6, 14 and 15 with the offset of the number's first byte; 12 if the book has
+/// more cells than are lent.
 pub fn read(bytes: &[u8], cells: &mut [u16]) -> Result<usize, Refusal> {
     count(foreign::read(bytes, cells))
 }
 
 /// Checks the cells of a book and answers its sizes.
 ///
-/// Refusals: 1, 3, 4, 5 and 6 with the cell's index. Every call that takes cells gives these
-/// first.
+/// Refusals: 1, 3, 4, 5, 14, 15 and 6 with the cell's index. Every call that takes cells gives
+/// these first.
 pub fn check(cells: &[u16]) -> Result<Sizes, Refusal> {
     let answer = accepted(foreign::check(cells))?;
     Ok(Sizes {

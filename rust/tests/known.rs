@@ -27,6 +27,8 @@ macro_rules! on_both {
 on_both! {
     one_number
     refused_places
+    refused_parts
+    no_left_side
     bracket_listing
     double_sentences
     small_runs
@@ -90,15 +92,59 @@ fn refused_places(calls: &Calls) {
     assert_eq!(refused(&[1, 33]), (4, 1));
     assert_eq!(refused(&[1, 4, 1, 0x81, 0x01]), (4, 3));
     assert_eq!(refused(&[1, 4, 1, 6, 2, 1]), (5, 5));
-    // A shift under terminal 0, accept under another, a state and a production too many.
-    for (at, value) in [(9, 2), (10, 1), (10, 14), (9, 7)] {
+}
+
+/// Bracket with some of its numbers changed, which in bytes and in cells have the same places.
+/// The first that is named is the first fault, and is told by the number of its part.
+fn refused_parts(calls: &Calls) {
+    let cells = cells_of(calls, BRACKET);
+    let refused = |number, faults: &[(usize, u8)]| {
         let mut bytes = BRACKET.to_vec();
-        bytes[at] = value;
-        assert_eq!(refused(&bytes), (5, at));
+        let mut cells = cells.clone();
+        for &(at, value) in faults {
+            bytes[at] = value;
+            cells[at] = value.into();
+        }
+        let refusal = Refusal {
+            number,
+            place: faults[0].0,
+        };
+        assert_eq!((calls.read)(&bytes, &mut [0; 99]), Err(refusal));
+        assert_eq!((calls.check)(&cells), Err(refusal));
+    };
+    // The first and the last left side, then length.
+    for fault in [(5, 1), (7, 1), (6, 33), (8, 33)] {
+        refused(5, &[fault]);
     }
-    let mut bytes = BRACKET.to_vec();
-    bytes[33] = 7;
-    assert_eq!(refused(&bytes), (5, 33));
+    // The first and the last shift under terminal 0, then accept under another.
+    for fault in [(9, 2), (29, 2), (10, 1), (32, 1)] {
+        refused(14, &[fault]);
+    }
+    // The first and the last shift to state S, then reduction by production P.
+    for fault in [(10, 14), (32, 14), (9, 7), (32, 7)] {
+        refused(14, &[fault]);
+    }
+    for fault in [(33, 7), (38, 7)] {
+        refused(15, &[fault]);
+    }
+    refused(4, &[(1, 33), (9, 2)]);
+    refused(5, &[(8, 33), (9, 2)]);
+    refused(5, &[(5, 1), (38, 7)]);
+    refused(14, &[(32, 1), (33, 7)]);
+    refused(14, &[(9, 7), (38, 7)]);
+}
+
+/// N = 0 with P = 1: no left side is in range.
+fn no_left_side(calls: &Calls) {
+    let refusal = Refusal {
+        number: 5,
+        place: 5,
+    };
+    assert_eq!(
+        (calls.read)(&[1, 1, 0, 1, 1, 0, 0, 0], &mut [0; 99]),
+        Err(refusal)
+    );
+    assert_eq!((calls.check)(&[1, 1, 0, 1, 1, 0, 0, 0]), Err(refusal));
 }
 
 fn bracket_listing(calls: &Calls) {

@@ -2,9 +2,9 @@
 use Rattle.number.specs.Words.{cond, List, [], _∷_, _++_, length, getD, ℕ, zero, suc, _+_, ltb, leb, eqb}
 use Rattle.number.specs.{Lent.over, Number.numberAt, Number.written, Number.value, Number.refusal}
 use Rattle.number.specs.declared.{Number.Number, Refusal.Refusal}
-use Rattle.book.specs.Range.{headFault, bodyFault, bodyLength}
+use Rattle.book.specs.Range.{fault, partLength}
 use Rattle.book.specs.Tables.{sizesOf}
-use Rattle.book.specs.declared.{Checked.Checked, Written.Written}
+use Rattle.book.specs.declared.{Checked.Checked, Part.Part, Sizes.Sizes, Written.Written}
 
 -- 'In memory the book is its numbers in order, one 16-bit cell each': what stands at an index, or '1 it stops before a due number is complete'
 unfoldable pub cellAt : List ℕ → ℕ → Number
@@ -15,10 +15,10 @@ pub data Row : Type 0 where
   read : List ℕ → ℕ → Row
   refused : Refusal → Row
 
--- the row with v in front
-abbrev pub before : ℕ → Row → Row
-before v (read vs at) = read (v ∷ vs) at
-before v (refused r) = refused r
+-- the row with numbers in front
+abbrev pub before : List ℕ → Row → Row
+before vs (read ws at) = read (vs ++ ws) at
+before vs (refused r) = refused r
 
 -- 'each number by 1, 2, its range': what stands at a place, refused there too where it has a fault
 abbrev pub admitted : (ℕ → ℕ) → ℕ → Number → Number
@@ -26,28 +26,46 @@ admitted fault at (Number.Refused r) = Number.Refused r
 admitted fault at (Number.Value v next) = cond (eqb (fault v) 0) (Number.Value v next) (refusal (fault v) at)
 
 -- a number, and the row that goes on after it
-abbrev pub followed : Number → (ℕ → Row) → Row
+abbrev pub followed : Number → (ℕ → ℕ → Row) → Row
 followed (Number.Refused r) rest = refused r
-followed (Number.Value v next) rest = before v (rest (next .at))
+followed (Number.Value v next) rest = before (v ∷ []) (rest v (next .at))
 
--- k numbers from a place of the source on, the first of which is number i of its part, each with its fault there
-unfoldable pub row : (ℕ → Number) → (ℕ → ℕ → ℕ) → ℕ → ℕ → ℕ → Row
-row source fault zero i at = read [] at
-row source fault (suc k) i at = followed (admitted (fault i) at (source at)) (λ next. row source fault k (suc i) next)
+-- k numbers from a place of the source on, each with its fault after those of its part already seen
+unfoldable pub row : (ℕ → Number) → (List ℕ → ℕ → ℕ) → ℕ → List ℕ → ℕ → Row
+row source fault zero seen at = read [] at
+row source fault (suc k) seen at = followed (admitted (fault seen) at (source at)) (λ v next. row source fault k (seen ++ (v ∷ [])) next)
 
--- 'Nothing follows the last goto': the whole book, where the row ends at the end, or '6 something follows the last number'
-abbrev pub whole : ℕ → List ℕ → Row → Row
-whole end head (refused r) = refused r
-whole end head (read body at) = cond (ltb at end) (refused (record { number = 6; place = at })) (read (head ++ body) at)
+-- the faults that look at no more than how many were seen
+abbrev pub byIndex : (ℕ → ℕ → ℕ) → List ℕ → ℕ → ℕ
+byIndex fault seen = fault (length seen)
 
--- the five numbers of the head say how many follow
-abbrev pub onward : (ℕ → Number) → ℕ → Row → Row
-onward source end (refused r) = refused r
-onward source end (read head at) = whole end head (row source (bodyFault (sizesOf head)) (bodyLength (sizesOf head)) 0 at)
+-- the numbers of a part
+abbrev pub partIn : (ℕ → Number) → Sizes → Part → ℕ → Row
+partIn source d part at = row source (byIndex (fault d part)) (partLength d part) [] at
 
--- the book that a source holds up to its end: its cells, or the refusal, 'book from the front'
+-- a row, and the one that goes on where it ends
+abbrev pub joined : Row → (List ℕ → ℕ → Row) → Row
+joined (refused r) rest = refused r
+joined (read vs at) rest = before vs (rest vs at)
+
+-- parts one after the other
+unfoldable pub partsIn : (ℕ → Number) → Sizes → List Part → ℕ → Row
+partsIn source d [] at = read [] at
+partsIn source d (part ∷ more) at = joined (partIn source d part at) (λ vs next. partsIn source d more next)
+
+-- the parts after the head, whose sizes it says
+abbrev pub body : List Part
+body = Part.Productions ∷ Part.Actions ∷ Part.Gotos ∷ []
+
+-- 'Nothing follows the last goto': the row, where it ends at the end, or '6 something follows the last number'
+abbrev pub whole : ℕ → Row → Row
+whole end (refused r) = refused r
+whole end (read cells at) = cond (ltb at end) (refused (record { number = 6; place = at })) (read cells at)
+
+-- the book that a source holds up to its end: its cells, or the refusal, 'book from the front'. It is its parts one after the other; before
+-- the head no sizes are known
 unfoldable pub bookIn : (ℕ → Number) → ℕ → Row
-bookIn source end = onward source end (row source headFault 5 0 0)
+bookIn source end = whole end (joined (partIn source (sizesOf []) Part.Head 0) (λ head at. partsIn source (sizesOf head) body at))
 
 -- the book in bytes, and in cells: 'Every public call that takes cells checks them by the same rules'
 unfoldable pub ofBytes : List ℕ → Row

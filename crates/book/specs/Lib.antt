@@ -5,7 +5,9 @@ pub mod BookLaws
 pub mod BytesLaws
 pub mod Call
 pub mod CallLaws
+pub mod CellsLaws
 pub mod IndexLaws
+pub mod PartsLaws
 pub mod Range
 pub mod RangeLaws
 pub mod RoundTripLaws

@@ -13,11 +13,15 @@ use Rattle.number.specs.NumberLaws.{Bytes, first-written, first-stands}
 use Rattle.number.specs.declared.Cursor.{Cursor}
 use Rattle.number.specs.declared.Number.{Number}
 use Rattle.number.specs.declared.Number.the-variants.{Value}
-use Rattle.book.specs.Book.{cellAt, read, row, bookIn, ofBytes, ofCells, bytesOf}
+use Rattle.book.specs.Book.{cellAt, read, row, byIndex, partsIn, body, bookIn, ofBytes, ofCells, bytesOf}
 use Rattle.book.specs.BookLaws.{book-whole}
-use Rattle.book.specs.Range.{headFault, bodyFault, bodyLength}
+use Rattle.book.specs.PartsLaws.{parts-empty, parts-front}
+use Rattle.book.specs.Range.{fault, partLength}
 use Rattle.book.specs.RowLaws.{row-front, row-empty}
 use Rattle.book.specs.Tables.{sizesOf}
+use Rattle.book.specs.declared.Part.{Part}
+use Rattle.book.specs.declared.Part.the-variants.{Head}
+use Rattle.book.specs.declared.Sizes.{Sizes}
 
 -- the elements of a slice of cells
 abbrev pub Cells : List ℕ → Type 0
@@ -29,24 +33,25 @@ data Reads (source : ℕ → Number) : ℕ → List ℕ → ℕ → Type 0 where
   more : {at v next : ℕ} {vs : List ℕ} (cursor : Cursor) → source at ≡ Value v cursor → Reads source (cursor .at) vs next → Reads source at (v ∷ vs) next
 
 -- ---- a row that one source has, any other that has its numbers has too
-row-reads : (source : ℕ → Number) (fault : ℕ → ℕ → ℕ) (k i at : ℕ) (vs : List ℕ) (next : ℕ) → row source fault k i at ≡ read vs next → Reads source at vs next
-row-reads source fault zero i at vs next e = let (p, q) = row-empty source fault i at vs next e in rw (← p, ← q) none
-row-reads source fault (suc k) i at vs next e =
-    let f = row-front source fault k i at vs next e in
-    rw (f .split) (more (f .cursor) (f .found) (row-reads source fault k (suc i) (f .cursor .at) (f .rest) next (f .onward)))
+row-reads : (source : ℕ → Number) (fault : List ℕ → ℕ → ℕ) (k : ℕ) (seen : List ℕ) (at : ℕ) (vs : List ℕ) (next : ℕ) → row source fault k seen at ≡ read vs next
+    → Reads source at vs next
+row-reads source fault zero seen at vs next e = let (p, q) = row-empty source fault seen at vs next e in rw (← p, ← q) none
+row-reads source fault (suc k) seen at vs next e =
+    let f = row-front source fault k seen at vs next e in
+    rw (f .split) (more (f .cursor) (f .found) (row-reads source fault k (seen ++ (f .v ∷ [])) (f .cursor .at) (f .rest) next (f .onward)))
 
-reads-row : {other : ℕ → Number} {at′ next′ : ℕ} {vs : List ℕ} (source : ℕ → Number) (fault : ℕ → ℕ → ℕ) (k i at next : ℕ)
-    → row source fault k i at ≡ read vs next → Reads other at′ vs next′ → row other fault k i at′ ≡ read vs next′
+reads-row : {other : ℕ → Number} {at′ next′ : ℕ} {vs : List ℕ} (source : ℕ → Number) (fault : List ℕ → ℕ → ℕ) (k : ℕ) (seen : List ℕ) (at next : ℕ)
+    → row source fault k seen at ≡ read vs next → Reads other at′ vs next′ → row other fault k seen at′ ≡ read vs next′
 unfolding row
-reads-row source fault zero i at next e none = refl
-reads-row source fault zero i at next e (more {v} {vs} c f r) = absurd (nil≢cons (row-empty source fault i at (v ∷ vs) next e .0))
-reads-row source fault (suc k) i at next e none = absurd (nil≢cons (row-front source fault k i at [] next e .split))
-reads-row source fault (suc k) i at next e (more {v} {vs} c f r) =
-    let g = row-front source fault k i at (v ∷ vs) next e in
+reads-row source fault zero seen at next e none = refl
+reads-row source fault zero seen at next e (more {v} {vs} c f r) = absurd (nil≢cons (row-empty source fault seen at (v ∷ vs) next e .0))
+reads-row source fault (suc k) seen at next e none = absurd (nil≢cons (row-front source fault k seen at [] next e .split))
+reads-row source fault (suc k) seen at next e (more {v} {vs} c f r) =
+    let g = row-front source fault k seen at (v ∷ vs) next e in
     let h : g .v ≡ v = cc (sym (g .split)) in
     let j : g .rest ≡ vs = cc (sym (g .split)) in
-    let onward = reads-row source fault k (suc i) (g .cursor .at) next (rw j at (g .onward)) r in
-    rw (f, eq-eqb (fault i v) 0 (rw h at (g .clean)), onward)
+    let onward = reads-row source fault k (seen ++ (v ∷ [])) (g .cursor .at) next (rw (h, j) at (g .onward)) r in
+    rw (f, eq-eqb (fault seen v) 0 (rw h at (g .clean)), onward)
 
 -- some of the numbers, and then the others
 reads-split : {source : ℕ → Number} {at next : ℕ} (a b : List ℕ) → Reads source at (a ++ b) next
@@ -58,23 +63,47 @@ reads-join : {source : ℕ → Number} {at mid next : ℕ} {a b : List ℕ} → 
 reads-join none q = q
 reads-join (more c f p) q = more c f (reads-join p q)
 
+reads-nothing : {source : ℕ → Number} {at next : ℕ} {vs : List ℕ} → [] ≡ vs → Reads source at vs next → read [] at ≡ read vs next
+reads-nothing e none = refl
+reads-nothing e (more c f r) = absurd (nil≢cons e)
+
+-- ---- so do parts
+module _ (source : ℕ → Number) (d : Sizes) where
+  parts-reads : (parts : List Part) (at : ℕ) (vs : List ℕ) (next : ℕ) → partsIn source d parts at ≡ read vs next → Reads source at vs next
+  parts-reads [] at vs next e = let (p, q) = parts-empty source d at vs next e in rw (← p, ← q) none
+  parts-reads (part ∷ others) at vs next e =
+      let f = parts-front source d part others at vs next e in
+      rw (f .both)
+      (reads-join (row-reads source (byIndex (fault d part)) (partLength d part) [] at (f .front) (f .mid) (f .first))
+      (parts-reads others (f .mid) (f .back) next (f .second)))
+
+  reads-parts : {other : ℕ → Number} {vs : List ℕ} (at′ next′ : ℕ) (parts : List Part) (at next : ℕ) → partsIn source d parts at ≡ read vs next
+      → Reads other at′ vs next′ → partsIn other d parts at′ ≡ read vs next′
+  unfolding partsIn
+  reads-parts {other} {vs} at′ next′ [] at next e r = reads-nothing (parts-empty source d at vs next e .0) r
+  reads-parts {other} {vs} at′ next′ (part ∷ others) at next e r =
+      let f = parts-front source d part others at vs next e in
+      let (mid, p, q) = reads-split (f .front) (f .back) (rw (f .both) at r) in
+      let first = reads-row source (byIndex (fault d part)) (partLength d part) [] at (f .mid) (f .first) p in
+      rw (first, reads-parts mid next′ others (f .mid) next (f .second) q, ← f .both)
+
 -- ---- so does a book
 book-other : (source other : ℕ → Number) (end end′ : ℕ) (cells : List ℕ) (next next′ : ℕ)
     → bookIn source end ≡ read cells next → Reads other 0 cells next′ → end′ ≤ next′ → bookIn other end′ ≡ read cells next′
 unfolding bookIn
 book-other source other end end′ cells next next′ e r h =
     let w = book-whole source end cells next e in
-    let (mid, p, q) = reads-split (w .head) (w .body) (rw (w .both) at r) in
-    let f = reads-row source headFault 5 0 0 (w .at) (w .first) p in
-    let g = reads-row source (bodyFault (sizesOf (w .head))) (bodyLength (sizesOf (w .head))) 0 (w .at) next (w .second) q in
+    let (mid, p, q) = reads-split (w .head) (w .rest) (rw (w .both) at r) in
+    let f = reads-row source (byIndex (fault (sizesOf []) Head)) 5 [] 0 (w .at) (w .first) p in
+    let g = reads-parts source (sizesOf (w .head)) mid next′ body (w .at) next (w .second) q in
     rw (f, g, le-ltb next′ end′ h, ← w .both)
 
 book-reads : (source : ℕ → Number) (end : ℕ) (cells : List ℕ) (next : ℕ) → bookIn source end ≡ read cells next → Reads source 0 cells next
 book-reads source end cells next e =
     let w = book-whole source end cells next e in
     rw (w .both)
-    (reads-join (row-reads source headFault 5 0 0 (w .head) (w .at) (w .first))
-    (row-reads source (bodyFault (sizesOf (w .head))) (bodyLength (sizesOf (w .head))) 0 (w .at) (w .body) next (w .second)))
+    (reads-join (row-reads source (byIndex (fault (sizesOf []) Head)) 5 [] 0 (w .head) (w .at) (w .first))
+    (parts-reads source (sizesOf (w .head)) body (w .at) (w .rest) next (w .second)))
 
 -- ---- cells and bytes as sources
 -- cells have their own numbers

@@ -3,152 +3,132 @@ use mathlib.Core.Path.{_≡_, refl, sym, _∙_, ap}
 use mathlib.Core.List.{List, [], _∷_, _++_, append-assoc, append-nil}
 use Prim.Native.Nat.{ℕ, zero, suc, _+_, _-_, _≤_, _<_}
 use native.Mathlib.Decide.{ℕ-discrete}
-use native.Mathlib.Nat.{zero-add, add-zero, suc-add, add-suc, le-of-suc-le-suc, not-suc-le-zero}
-use native.Mathlib.Numerals.{add-one}
+use native.Mathlib.Nat.{zero-add, suc-add, le-of-suc-le-suc, not-suc-le-zero}
 use native.Mathlib.Omega.{arith}
 use borrow.Author.Tests.{eq-eqb, ne-eqb}
-use lib.ListN.{length, getD, take, set}
-use lib.Seq.{take-suc-set, take-all}
+use lib.ListN.{length, getD, take, length-append}
 use Rattle.number.specs.Number.{value}
 use Rattle.number.specs.declared.Cursor.{Cursor}
 use Rattle.number.specs.declared.Number.{Number}
 use Rattle.number.specs.declared.Number.the-variants.{Value, Refused}
 use Rattle.number.specs.declared.Refusal.{Refusal}
-use Rattle.book.specs.Book.{Row, read, refused, before, admitted, row}
-
--- several numbers in front of a row
-abbrev pub prefix : List ℕ → Row → Row
-prefix vs (read ws at) = read (vs ++ ws) at
-prefix vs (refused r) = refused r
+use Rattle.book.specs.Book.{Row, read, refused, before, admitted, row, byIndex, joined}
 
 -- where a row ends, or its refusal: what a loop that keeps no number knows of it
 abbrev pub ends : Row → Number
 ends (read vs at) = value 0 at
 ends (refused r) = Refused r
 
-pub prefix-before : (vs : List ℕ) (v : ℕ) (w : Row) → prefix vs (before v w) ≡ prefix (vs ++ (v ∷ [])) w
-prefix-before vs v (read ws at) = rw append-assoc
-prefix-before vs v (refused r) = refl
+-- what goes on where a row ended, or that row's refusal
+abbrev pub after : Number → (ℕ → Number) → Number
+after (Refused r) rest = Refused r
+after (Value v next) rest = rest (next .at)
 
-pub prefix-none : (w : Row) → prefix [] w ≡ w
-prefix-none (read ws at) = refl
-prefix-none (refused r) = refl
+ends-before : (vs : List ℕ) (w : Row) → ends (before vs w) ≡ ends w
+ends-before vs (read ws at) = refl
+ends-before vs (refused r) = refl
 
-pub ends-before : (v : ℕ) (w : Row) → ends (before v w) ≡ ends w
-ends-before v (read ws at) = refl
-ends-before v (refused r) = refl
+pub ends-joined : (w : Row) (rest : ℕ → Row) → ends (joined w (λ vs next. rest next)) ≡ after (ends w) (λ at. ends (rest at))
+ends-joined (read vs at) rest = ends-before vs (rest at)
+ends-joined (refused r) rest = refl
 
--- ---- a row of n numbers at its number i, as a loop has it
-module _ (source : ℕ → Number) (fault : ℕ → ℕ → ℕ) (n i at : ℕ) where
-  pub row-more : (v : ℕ) (next : Cursor) → i < n → admitted (fault i) at (source at) ≡ Value v next
-      → row source fault (n - i) i at ≡ before v (row source fault (n - (i + 1)) (i + 1) (next .at))
+-- ---- a row of n numbers after i of them, as a loop has it
+module _ (source : ℕ → Number) (fault : List ℕ → ℕ → ℕ) (n i at : ℕ) (seen : List ℕ) where
+  row-more : (v : ℕ) (next : Cursor) → i < n → admitted (fault seen) at (source at) ≡ Value v next
+      → row source fault (n - i) seen at ≡ before (v ∷ []) (row source fault (n - (i + 1)) (seen ++ (v ∷ [])) (next .at))
   unfolding row
   row-more v next h e =
       let k : n - i ≡ suc (n - (i + 1)) = omega arith in
-      rw (k, add-one, e)
+      rw (k, e)
 
-  pub row-stop : (r : Refusal) → i < n → admitted (fault i) at (source at) ≡ Refused r → row source fault (n - i) i at ≡ refused r
+  row-stop : (r : Refusal) → i < n → admitted (fault seen) at (source at) ≡ Refused r → row source fault (n - i) seen at ≡ refused r
   unfolding row
   row-stop r h e =
       let k : n - i ≡ suc (n - (i + 1)) = omega arith in
       rw (k, e)
 
-  pub row-done : n ≤ i → row source fault (n - i) i at ≡ read [] at
+  row-done : n ≤ i → row source fault (n - i) seen at ≡ read [] at
   unfolding row
   row-done h = let k : n - i ≡ 0 = omega arith in rw k
 
--- a loop over the row that keeps no number: i of its n numbers are read, and the next stands at a place
+-- a loop over the row that keeps no number, with faults by index: i of its n numbers are read, and the next stands at a place
 pub record Turns (source : ℕ → Number) (fault : ℕ → ℕ → ℕ) (n start i at : ℕ) : Type 0 where
-  pub left : ends (row source fault n 0 start) ≡ ends (row source fault (n - i) i at)
+  pub seen : List ℕ
+  pub count : length seen ≡ i
+  pub left : ends (row source (byIndex fault) n [] start) ≡ ends (row source (byIndex fault) (n - i) seen at)
 
 module _ {source : ℕ → Number} {fault : ℕ → ℕ → ℕ} {n start : ℕ} where
   pub turns-none : Turns source fault n start 0 start
-  turns-none = let k : n - 0 ≡ n = omega arith in record { left = rw k }
+  turns-none = let k : n - 0 ≡ n = omega arith in record { seen = []; count = refl; left = rw k }
 
   pub turns-more : {i at v : ℕ} {next : Cursor} → Turns source fault n start i at → i < n → admitted (fault i) at (source at) ≡ Value v next
       → Turns source fault n start (i + 1) (next .at)
-  turns-more {i} {at} {v} {next} t h e = record { left = t .left ∙ ap ends (row-more source fault n i at v next h e) ∙ ends-before v (row source fault (n - (i + 1)) (i + 1) (next .at)) }
+  turns-more {i} {at} {v} {next} t h e = record {
+    seen = t .seen ++ (v ∷ []);
+    count = rw length-append (omega (arith, t .count));
+    left =
+        t .left ∙ ap ends (row-more source (byIndex fault) n i at (t .seen) v next h (rw (t .count) e))
+        ∙ ends-before (v ∷ []) (row source (byIndex fault) (n - (i + 1)) (t .seen ++ (v ∷ [])) (next .at));
+  }
 
   pub turns-stop : {i at : ℕ} {r : Refusal} → Turns source fault n start i at → i < n → admitted (fault i) at (source at) ≡ Refused r
-      → Refused r ≡ ends (row source fault n 0 start)
-  turns-stop {i} {at} {r} t h e = sym (t .left ∙ ap ends (row-stop source fault n i at r h e))
+      → Refused r ≡ ends (row source (byIndex fault) n [] start)
+  turns-stop {i} {at} {r} t h e = sym (t .left ∙ ap ends (row-stop source (byIndex fault) n i at (t .seen) r h (rw (t .count) e)))
 
-  pub turns-done : {i at : ℕ} → Turns source fault n start i at → n ≤ i → value 0 at ≡ ends (row source fault n 0 start)
-  turns-done {i} {at} t h = sym (t .left ∙ ap ends (row-done source fault n i at h))
-
--- a loop that keeps the numbers in a list
-pub record Kept (source : ℕ → Number) (fault : ℕ → ℕ → ℕ) (n start : ℕ) (kept : List ℕ) (i at : ℕ) : Type 0 where
-  pub left : row source fault n 0 start ≡ prefix (take i kept) (row source fault (n - i) i at)
-
-module _ {source : ℕ → Number} {fault : ℕ → ℕ → ℕ} {n start : ℕ} where
-  pub kept-none : {kept : List ℕ} → Kept source fault n start kept 0 start
-  kept-none = let k : n - 0 ≡ n = omega arith in record { left = rw k (sym (prefix-none _)) }
-
-  pub kept-more : {kept : List ℕ} {i at v : ℕ} {next : Cursor} → Kept source fault n start kept i at → i < n → i < length kept
-      → admitted (fault i) at (source at) ≡ Value v next → Kept source fault n start (set kept i v) (i + 1) (next .at)
-  kept-more {kept} {i} {at} {v} {next} t h l e =
-      let rest = row source fault (n - (i + 1)) (i + 1) (next .at) in
-      let more : take (i + 1) (set kept i v) ≡ take i kept ++ (v ∷ []) = rw (add-one, take-suc-set kept i v l) in
-      record {
-        left =
-            t .left ∙ ap (prefix (take i kept)) (row-more source fault n i at v next h e) ∙ prefix-before (take i kept) v rest
-            ∙ ap (λ (vs : List ℕ). prefix vs rest) (sym more);
-      }
-
-  pub kept-stop : {kept : List ℕ} {i at : ℕ} {r : Refusal} → Kept source fault n start kept i at → i < n
-      → admitted (fault i) at (source at) ≡ Refused r → row source fault n 0 start ≡ refused r
-  kept-stop {kept} {i} {at} {r} t h e = t .left ∙ ap (prefix (take i kept)) (row-stop source fault n i at r h e)
-
-  pub kept-done : {kept : List ℕ} {i at : ℕ} → Kept source fault n start kept i at → n ≤ i → length kept ≤ i → row source fault n 0 start ≡ read kept at
-  kept-done {kept} {i} {at} t h l = t .left ∙ ap (prefix (take i kept)) (row-done source fault n i at h) ∙ rw (append-nil, take-all i kept l)
+  pub turns-done : {i at : ℕ} → Turns source fault n start i at → n ≤ i → value 0 at ≡ ends (row source (byIndex fault) n [] start)
+  turns-done {i} {at} t h = sym (t .left ∙ ap ends (row-done source (byIndex fault) n i at (t .seen) h))
 
 -- ---- a row that was read
-refused-not-read : (r : Refusal) (vs : List ℕ) (next : ℕ) → refused r ≡ read vs next → ⊥
+pub refused-not-read : (r : Refusal) (vs : List ℕ) (next : ℕ) → refused r ≡ read vs next → ⊥
 refused-not-read r vs next e = let z : _≡_ {A = ℕ} 0 1 = cc in omega arith
 
 -- its first number, which has no fault, and the others
-pub record RowFront (source : ℕ → Number) (fault : ℕ → ℕ → ℕ) (k i at : ℕ) (vs : List ℕ) (next : ℕ) : Type 0 where
+pub record RowFront (source : ℕ → Number) (fault : List ℕ → ℕ → ℕ) (k : ℕ) (seen : List ℕ) (at : ℕ) (vs : List ℕ) (next : ℕ) : Type 0 where
   pub v : ℕ
   pub cursor : Cursor
   pub rest : List ℕ
   pub found : source at ≡ Value v cursor
-  pub clean : fault i v ≡ 0
+  pub clean : fault seen v ≡ 0
   pub split : vs ≡ v ∷ rest
-  pub onward : row source fault k (suc i) (cursor .at) ≡ read rest next
+  pub onward : row source fault k (seen ++ (v ∷ [])) (cursor .at) ≡ read rest next
 
-module _ (source : ℕ → Number) (fault : ℕ → ℕ → ℕ) where
-  pub row-front : (k i at : ℕ) (vs : List ℕ) (next : ℕ) → row source fault (suc k) i at ≡ read vs next → RowFront source fault k i at vs next
+module _ (source : ℕ → Number) (fault : List ℕ → ℕ → ℕ) where
+  pub row-front : (k : ℕ) (seen : List ℕ) (at : ℕ) (vs : List ℕ) (next : ℕ) → row source fault (suc k) seen at ≡ read vs next
+      → RowFront source fault k seen at vs next
   unfolding row
-  row-front k i at vs next e = first (source at) refl
+  row-front k seen at vs next e = first (source at) refl
     where
-      rest-of : (v : ℕ) (c : Cursor) → source at ≡ Value v c → fault i v ≡ 0 → (w : Row) → row source fault k (suc i) (c .at) ≡ w
-          → before v w ≡ read vs next → RowFront source fault k i at vs next
+      rest-of : (v : ℕ) (c : Cursor) → source at ≡ Value v c → fault seen v ≡ 0 → (w : Row) → row source fault k (seen ++ (v ∷ [])) (c .at) ≡ w
+          → before (v ∷ []) w ≡ read vs next → RowFront source fault k seen at vs next
       rest-of v c f z (refused r) g h = absurd (refused-not-read r vs next h)
       rest-of v c f z (read ws end) g h = record { v = v; cursor = c; rest = ws; found = f; clean = z; split = cc; onward = let j : end ≡ next = cc in rw g (rw j) }
 
-      second : (v : ℕ) (c : Cursor) → source at ≡ Value v c → Dec (fault i v ≡ 0) → RowFront source fault k i at vs next
-      second v c f (yes z) = rest-of v c f z (row source fault k (suc i) (c .at)) refl (rw (f, eq-eqb (fault i v) 0 z) at e)
-      second v c f (no z) = absurd (refused-not-read _ vs next (rw (f, ne-eqb (fault i v) 0 z) at e))
+      second : (v : ℕ) (c : Cursor) → source at ≡ Value v c → Dec (fault seen v ≡ 0) → RowFront source fault k seen at vs next
+      second v c f (yes z) = rest-of v c f z (row source fault k (seen ++ (v ∷ [])) (c .at)) refl (rw (f, eq-eqb (fault seen v) 0 z) at e)
+      second v c f (no z) = absurd (refused-not-read _ vs next (rw (f, ne-eqb (fault seen v) 0 z) at e))
 
-      first : (n : Number) → source at ≡ n → RowFront source fault k i at vs next
-      first (Value v c) f = second v c f (ℕ-discrete (fault i v) 0)
+      first : (n : Number) → source at ≡ n → RowFront source fault k seen at vs next
+      first (Value v c) f = second v c f (ℕ-discrete (fault seen v) 0)
       first (Refused r) f = absurd (refused-not-read r vs next (rw f at e))
 
-  pub row-empty : (i at : ℕ) (vs : List ℕ) (next : ℕ) → row source fault 0 i at ≡ read vs next → ([] ≡ vs) × (at ≡ next)
+  pub row-empty : (seen : List ℕ) (at : ℕ) (vs : List ℕ) (next : ℕ) → row source fault 0 seen at ≡ read vs next → ([] ≡ vs) × (at ≡ next)
   unfolding row
-  row-empty i at vs next e = (cc, cc)
+  row-empty seen at vs next e = (cc, cc)
 
-  pub row-length : (k i at : ℕ) (vs : List ℕ) (next : ℕ) → row source fault k i at ≡ read vs next → length vs ≡ k
-  row-length zero i at vs next e = ap length (sym (row-empty i at vs next e .0))
-  row-length (suc k) i at vs next e = let f = row-front k i at vs next e in rw (f .split) (ap suc (row-length k (suc i) (f .cursor .at) (f .rest) next (f .onward)))
+  pub row-length : (k : ℕ) (seen : List ℕ) (at : ℕ) (vs : List ℕ) (next : ℕ) → row source fault k seen at ≡ read vs next → length vs ≡ k
+  row-length zero seen at vs next e = ap length (sym (row-empty seen at vs next e .0))
+  row-length (suc k) seen at vs next e =
+      let f = row-front k seen at vs next e in
+      rw (f .split) (ap suc (row-length k (seen ++ (f .v ∷ [])) (f .cursor .at) (f .rest) next (f .onward)))
 
   -- no number has a fault
-  pub row-clean : (k i at : ℕ) (vs : List ℕ) (next : ℕ) → row source fault k i at ≡ read vs next → (j : ℕ) → j < k → fault (i + j) (getD vs j 0) ≡ 0
-  row-clean zero i at vs next e j h = absurd (not-suc-le-zero h)
-  row-clean (suc k) i at vs next e zero h = let f = row-front k i at vs next e in rw (f .split, add-zero) (f .clean)
-  row-clean (suc k) i at vs next e (suc j) h =
-      let f = row-front k i at vs next e in
-      rw (f .split, add-suc, ← suc-add) (row-clean k (suc i) (f .cursor .at) (f .rest) next (f .onward) j (le-of-suc-le-suc h))
+  pub row-clean : (k : ℕ) (seen : List ℕ) (at : ℕ) (vs : List ℕ) (next : ℕ) → row source fault k seen at ≡ read vs next → (j : ℕ) → j < k
+      → fault (seen ++ take j vs) (getD vs j 0) ≡ 0
+  row-clean zero seen at vs next e j h = absurd (not-suc-le-zero h)
+  row-clean (suc k) seen at vs next e zero h = let f = row-front k seen at vs next e in rw (f .split, append-nil) (f .clean)
+  row-clean (suc k) seen at vs next e (suc j) h =
+      let f = row-front k seen at vs next e in
+      rw (f .split) (rw append-assoc at (row-clean k (seen ++ (f .v ∷ [])) (f .cursor .at) (f .rest) next (f .onward) j (le-of-suc-le-suc h)))
 
 -- ---- the numbers of a source, whatever their faults
 abbrev pub onto : Number → (ℕ → List ℕ) → List ℕ
@@ -178,16 +158,12 @@ module _ (source : ℕ → Number) (n i at : ℕ) where
   values-done h = let k : n - i ≡ 0 = omega arith in rw k
 
 -- those of a row that was read, and m after it
-pub values-row : (source : ℕ → Number) (fault : ℕ → ℕ → ℕ) (k m i at : ℕ) (vs : List ℕ) (next : ℕ) → row source fault k i at ≡ read vs next
-    → values source (k + m) at ≡ vs ++ values source m next
+pub values-row : (source : ℕ → Number) (fault : List ℕ → ℕ → ℕ) (k m : ℕ) (seen : List ℕ) (at : ℕ) (vs : List ℕ) (next : ℕ)
+    → row source fault k seen at ≡ read vs next → values source (k + m) at ≡ vs ++ values source m next
 unfolding values
-values-row source fault zero m i at vs next e = let (p, q) = row-empty source fault i at vs next e in rw (zero-add, ← p, q)
-values-row source fault (suc k) m i at vs next e =
-    let f = row-front source fault k i at vs next e in
+values-row source fault zero m seen at vs next e = let (p, q) = row-empty source fault seen at vs next e in rw (zero-add, ← p, q)
+values-row source fault (suc k) m seen at vs next e =
+    let f = row-front source fault k seen at vs next e in
     rw (suc-add, f .found)
-    (ap (λ (l : List ℕ). f .v ∷ l) (values-row source fault k m (suc i) (f .cursor .at) (f .rest) next (f .onward))
+    (ap (λ (l : List ℕ). f .v ∷ l) (values-row source fault k m (seen ++ (f .v ∷ [])) (f .cursor .at) (f .rest) next (f .onward))
     ∙ ap (λ (l : List ℕ). l ++ values source m next) (sym (f .split)))
-
-pub values-all : (source : ℕ → Number) (fault : ℕ → ℕ → ℕ) (k i at : ℕ) (vs : List ℕ) (next : ℕ) → row source fault k i at ≡ read vs next → values source k at ≡ vs
-unfolding values
-values-all source fault k i at vs next e = rw (add-zero, append-nil) at (values-row source fault k 0 i at vs next e)

@@ -1,32 +1,34 @@
 -- 'The longest book has 16,647 bytes': no book has more, nor more than 8,453 cells, and one has as many. Assumes nothing.
 use mathlib.Core.Bool.{true, false≢true}
-use mathlib.Core.List.{List, [], _∷_, _++_}
+use mathlib.Core.List.{List, [], _∷_, _++_, append-assoc}
 use mathlib.Core.Path.{_≡_, refl, sym, _∙_, ap}
 use Prim.Native.Nat.{ℕ, zero, suc, _+_, _*_, _-_, _/_, _%_, _≤_, _<_}
 use native.Mathlib.Decide.{decLt, ℕ-discrete}
-use native.Mathlib.Nat.{zero-add, add-zero, zero-mul, suc-mul, mul-suc}
-use native.Mathlib.Numerals.{add-one}
+use native.Mathlib.Nat.{zero-add, zero-mul, suc-mul, mul-suc}
 use native.Mathlib.Omega.{arith}
 use borrow.Author.Tests.{lt-ltb, le-ltb, le-leb, eq-eqb, ne-eqb, ltb-true, leb-true}
 use lib.ListN.{length, getD, take, drop, replicate, length-append, length-take, length-drop, length-replicate, getD-replicate, take-append-drop, List·getD-append, List·getD-eq-default}
-use lib.Seq.{drop-cons, drop-drop, getD-append-add, getD-drop, getD-take, take-all}
+use lib.Seq.{drop-drop, getD-append-add, getD-drop, getD-take, take-all}
 use Rattle.number.specs.TestLaws.{tests}
 use Rattle.number.specs.Number.{written}
 use Rattle.number.specs.NumberLaws.{Bytes, written-one, written-two}
 use Rattle.book.specs.Action.{actionOf}
 use Rattle.book.specs.ActionLaws.{action-odd, code-action, codeOf}
-use Rattle.book.specs.Book.{cellAt, read, row, bookIn, ofBytes, ofCells, bytesOf, checked}
-use Rattle.book.specs.BookLaws.{book-whole, cells-row, checked-valid, head-range, sizes-take}
+use Rattle.book.specs.Book.{read, body, bookIn, ofBytes, ofCells, bytesOf, checked}
+use Rattle.book.specs.BookLaws.{checked-valid, sizes-take}
 use Rattle.book.specs.BytesLaws.{bytes-append}
-use Rattle.book.specs.Range.{headHighest, headFault, bodyFault, bodyLength, allowed, fits}
-use Rattle.book.specs.RangeLaws.{actions-few, gotos-few, Small}
+use Rattle.book.specs.CellsLaws.{Fit, fit-part, fit-parts}
+use Rattle.book.specs.PartsLaws.{total}
+use Rattle.book.specs.Range.{headHighest, partLength, allowed, fits}
+use Rattle.book.specs.RangeLaws.{actions-few, gotos-few, Small, bodyLength, head-range}
 use Rattle.book.specs.RoundTripLaws.{read-written, written-read}
-use Rattle.book.specs.RowLaws.{row-clean}
 use Rattle.book.specs.Tables.{sizesOf}
-use Rattle.book.specs.TablesLaws.{Holds, valid-holds, cell-fits}
+use Rattle.book.specs.TablesLaws.{Holds, valid-holds, head-fits, body-fits}
 use Rattle.book.specs.declared.Action.{Action}
 use Rattle.book.specs.declared.Action.the-variants.{Error, Accept, Shift, Reduce}
 use Rattle.book.specs.declared.Checked.the-variants.{Valid}
+use Rattle.book.specs.declared.Part.{Part}
+use Rattle.book.specs.declared.Part.the-variants.{Head, Productions, Actions, Gotos}
 use Rattle.book.specs.declared.Sizes.{Sizes}
 
 -- ---- at most so many cells
@@ -64,24 +66,13 @@ action-wide d h t v (Shift s) e f = go (ℕ-discrete t 0)
     go (no z) = omega (arith, ltb-true s (d .s) (simp tests at e), h .states)
 action-wide d h t v (Reduce p) e f = omega (arith, ltb-true p (d .p) e, h .productions)
 
-module _ (d : Sizes) (h : Small d) (i v : ℕ) where
-  production-narrow : i < 2 * d .p → fits d i v ≡ true → v < 128
-  unfolding fits
-  production-narrow l e = go (ℕ-discrete (i % 2) 0)
-    where
-      go : Dec (i % 2 ≡ 0) → v < 128
-      go (yes z) = omega (arith, ltb-true v (d .n) (simp tests at e), h .nonterminals)
-      go (no z) = omega (arith, leb-true v 32 (simp tests at e))
-
-  fits-wide : fits d i v ≡ true → v < 16384
-  unfolding fits
-  fits-wide e = go (decLt i (2 * d .p)) (decLt i (2 * d .p + d .s * d .t))
-    where
-      go : Dec (i < 2 * d .p) → Dec (i < 2 * d .p + d .s * d .t) → v < 16384
-      go (yes l) k = omega (arith, production-narrow l e)
-      go (no l) (yes k) =
-          action-wide d h ((i - 2 * d .p) % d .t) v (actionOf v) (rw (le-ltb i (2 * d .p) (omega arith), lt-ltb i (2 * d .p + d .s * d .t) k) at e) (code-action v)
-      go (no l) (no k) = omega (arith, leb-true v (d .s) (rw (le-ltb i (2 * d .p) (omega arith), le-ltb i (2 * d .p + d .s * d .t) (omega arith)) at e), h .states)
+production-narrow : (d : Sizes) → Small d → (i v : ℕ) → fits d Productions i v ≡ true → v < 128
+unfolding fits
+production-narrow d h i v e = go (ℕ-discrete (i % 2) 0)
+  where
+    go : Dec (i % 2 ≡ 0) → v < 128
+    go (yes z) = omega (arith, ltb-true v (d .n) (simp tests at e), h .nonterminals)
+    go (no z) = omega (arith, leb-true v 32 (simp tests at e))
 
 highest-narrow : (j : ℕ) → j < 3 → getD headHighest j 0 < 128
 highest-narrow zero l = omega arith
@@ -99,22 +90,25 @@ highest-wide (suc (suc (suc (suc (suc j))))) = omega arith
 
 module _ {d : Sizes} {cells : List ℕ} (h : Holds d cells) where
   head-most : (j : ℕ) → j < 5 → getD cells j 0 ≤ getD headHighest j 0
-  unfolding ofCells
-  head-most j l =
-      let w = book-whole (cellAt cells) (length cells) cells (length cells) (h .book) in
-      let p = cells-row cells headFault 5 0 0 (w .head) (w .at) (w .first) (omega arith) in
-      let there : getD (w .head) j 0 ≡ getD cells j 0 = rw (p .part, getD-take 5 cells j 0 l) in
-      head-range j _ (rw (zero-add, there) at (row-clean (cellAt cells) headFault 5 0 0 (w .head) (w .at) (w .first) j l)) .1
+  head-most j l = head-range d j (getD cells j 0) (head-fits h j l) .1
 
   pub cell-wide : (i : ℕ) → getD cells i 0 < 16384
-  cell-wide i = go (decLt i 5) (decLt i (length cells))
+  unfolding fits
+  cell-wide i = go (decLt i 5) (decLt i (5 + 2 * d .p)) (decLt i (5 + 2 * d .p + d .s * d .t)) (decLt i (length cells))
     where
-      go : Dec (i < 5) → Dec (i < length cells) → getD cells i 0 < 16384
-      go (yes l) r = omega (arith, head-most i l, highest-wide i)
-      go (no l) (yes r) =
-          let k : 5 + (i - 5) ≡ i = omega arith in
-          fits-wide d (h .small) (i - 5) (getD cells i 0) (rw k at (cell-fits h (i - 5) (omega (arith, h .count))))
-      go (no l) (no r) = let out : length cells ≤ i = omega arith in rw (List·getD-eq-default cells 0 out) (omega arith)
+      -- a cell of a part that begins at a place
+      inside : (part : Part) (at : ℕ) → ((j : ℕ) → j < partLength d part → fits d part j (getD cells (at + j) 0) ≡ true) → at ≤ i → i < at + partLength d part
+          → fits d part (i - at) (getD cells i 0) ≡ true
+      inside part at f low high = let k : at + (i - at) ≡ i = omega arith in rw k at (f (i - at) (omega arith))
+
+      go : Dec (i < 5) → Dec (i < 5 + 2 * d .p) → Dec (i < 5 + 2 * d .p + d .s * d .t) → Dec (i < length cells) → getD cells i 0 < 16384
+      go (yes l) k m r = omega (arith, head-most i l, highest-wide i)
+      go (no l) (yes k) m r = omega (arith, production-narrow d (h .small) (i - 5) (getD cells i 0) (inside Productions 5 (body-fits h .0) (omega arith) k))
+      go (no l) (no k) (yes m) r =
+          action-wide d (h .small) ((i - (5 + 2 * d .p)) % d .t) (getD cells i 0) (actionOf (getD cells i 0)) (inside Actions (5 + 2 * d .p) (body-fits h .1 .0) (omega arith) m) (code-action (getD cells i 0))
+      go (no l) (no k) (no m) (yes r) =
+          omega (arith, h .small .states, leb-true (getD cells i 0) (d .s) (inside Gotos (5 + 2 * d .p + d .s * d .t) (body-fits h .1 .1 .0) (omega arith) (omega (arith, h .count))))
+      go (no l) (no k) (no m) (no r) = let out : length cells ≤ i = omega arith in rw (List·getD-eq-default cells 0 out) (omega arith)
 
   -- the form, T and N
   sizes-narrow : (j : ℕ) → j < length (take 3 cells) → getD (take 3 cells) j 0 < 128
@@ -125,7 +119,7 @@ module _ {d : Sizes} {cells : List ℕ} (h : Holds d cells) where
   productions-narrow : (j : ℕ) → j < length (take (2 * d .p) (drop 5 cells)) → getD (take (2 * d .p) (drop 5 cells)) j 0 < 128
   productions-narrow j l =
       let k : j < 2 * d .p = omega (arith, length-take (2 * d .p) (drop 5 cells)) in
-      rw (getD-take (2 * d .p) (drop 5 cells) j 0 k, getD-drop) (production-narrow d (h .small) j _ k (cell-fits h j (omega arith)))
+      rw (getD-take (2 * d .p) (drop 5 cells) j 0 k, getD-drop) (production-narrow d (h .small) j _ (body-fits h .0 j k))
 
   cells-bytes : length (bytesOf cells) ≤ 16647
   cells-bytes =
@@ -146,61 +140,53 @@ book-bytes-most bytes d b e =
     rw same at (cells-bytes (valid-holds cells (sizesOf cells) (ap checked valid)))
 
 -- ---- cells that fit are accepted
-cells-found : (cells : List ℕ) (fault : ℕ → ℕ → ℕ) (k i at : ℕ) → at + k ≤ length cells → ((j : ℕ) → j < k → fault (i + j) (getD cells (at + j) 0) ≡ 0)
-    → row (cellAt cells) fault k i at ≡ read (take k (drop at cells)) (at + k)
-unfolding row cellAt
-cells-found cells fault zero i at h clean = rw add-zero
-cells-found cells fault (suc k) i at h clean =
-    let first : fault i (getD cells at 0) ≡ 0 = rw (add-zero i, add-zero at) at (clean 0 (omega arith)) in
-    let later : (j : ℕ) → j < k → fault (suc i + j) (getD cells (at + 1 + j) 0) ≡ 0 = λ j l.
-    (let p : suc i + j ≡ i + suc j = omega arith in let q : at + 1 + j ≡ at + suc j = omega arith in rw (p, q) (clean (suc j) (omega arith))) in
-    let next : at + 1 + k ≡ at + suc k = omega arith in
-    let onward = rw next at (cells-found cells fault k (suc i) (at + 1) (omega arith) later) in
-    rw (lt-ltb at (length cells) (omega arith), eq-eqb (fault i (getD cells at 0)) 0 first, onward, drop-cons cells at 0 (omega arith), add-one)
-
-pub accepted : (d : Sizes) (cells : List ℕ) → d ≡ sizesOf cells → length cells ≡ 5 + bodyLength d → ((j : ℕ) → j < 5 → headFault j (getD cells j 0) ≡ 0)
-    → ((i : ℕ) → i < bodyLength d → fits d i (getD cells (5 + i) 0) ≡ true) → ofCells cells ≡ read cells (length cells)
-unfolding ofCells bookIn bodyFault
-accepted d cells sizes count head body =
-    let first = cells-found cells headFault 5 0 0 (omega arith) (λ j l. rw (zero-add j) (head j l)) in
-    let second = cells-found cells (bodyFault d) (bodyLength d) 0 5 (omega arith) (λ i l. rw (zero-add i, body i l)) in
-    let rest : take (bodyLength d) (drop 5 cells) ≡ drop 5 cells = take-all (bodyLength d) (drop 5 cells) (rw length-drop (omega arith)) in
-    rw (first, sizes-take, ← sizes, second, count, le-ltb (5 + bodyLength d) (5 + bodyLength d) (omega arith), rest, take-append-drop)
+pub accepted : (d : Sizes) (cells : List ℕ) → d ≡ sizesOf cells → length cells ≡ 5 + bodyLength d → ((j : ℕ) → j < 5 → fits d Head j (getD cells j 0) ≡ true)
+    → Fit d body cells 5 → ofCells cells ≡ read cells (length cells)
+unfolding ofCells bookIn fits
+accepted d cells sizes count head f =
+    let first = fit-part cells (sizesOf []) Head 0 (omega arith) (λ j l. rw (zero-add j) (head j l)) in
+    let second = fit-parts cells d body 5 (omega arith) f in
+    let all : 5 + total d body ≡ length cells = omega arith in
+    let rest : take (total d body) (drop 5 cells) ≡ drop 5 cells = take-all (total d body) (drop 5 cells) (rw length-drop (omega arith)) in
+    rw (first, sizes-take, ← sizes, second, all, le-ltb (length cells) (length cells) (omega arith), rest, take-append-drop)
 
 -- ---- several times one number
 bytes-replicate : (n v : ℕ) → length (bytesOf (replicate n v)) ≡ n * length (written v)
 bytes-replicate zero v = sym (zero-mul (length (written v)))
 bytes-replicate (suc n) v = rw (length-append, suc-mul) (omega (arith, bytes-replicate n v))
 
-after : (xs ys : List ℕ) (n i : ℕ) → length xs ≡ n → n ≤ i → getD (xs ++ ys) i 0 ≡ getD ys (i - n) 0
-after xs ys n i e h =
-    let k : i ≡ length xs + (i - n) = omega arith in
-    ap (λ (j : ℕ). getD (xs ++ ys) j 0) k ∙ getD-append-add xs ys (i - n) 0
+-- .. after some numbers and before others
+among : (xs ys : List ℕ) (n v at i : ℕ) → length xs ≡ at → i < n → getD (xs ++ (replicate n v ++ ys)) (at + i) 0 ≡ v
+among xs ys n v at i e h = rw (← e, getD-append-add) (List·getD-append (replicate n v) ys 0 i (rw length-replicate h) ∙ getD-replicate n i v 0 h)
 
-module _ (a b c x y z : ℕ) where
-  abbrev parts : List ℕ
-  parts = replicate a x ++ (replicate b y ++ replicate c z)
+-- ---- a book of given sizes in which each number after the head is as wide as it can be: the productions are the last nonterminal's, each
+-- action reduces by the last of them, and each goto leads to the last state
+abbrev widest : Sizes → Part → ℕ
+widest d Head = 0
+widest d Productions = d .n - 1
+widest d Actions = 1 + 2 * d .p
+widest d Gotos = d .s
 
-  part-first : (i : ℕ) → i < a → getD parts i 0 ≡ x
-  part-first i h = List·getD-append (replicate a x) _ 0 i (rw length-replicate h) ∙ getD-replicate a i x 0 h
+abbrev filled : Sizes → List Part → List ℕ
+filled d [] = []
+filled d (part ∷ more) = replicate (partLength d part) (widest d part) ++ filled d more
 
-  part-second : (i : ℕ) → a ≤ i → i < a + b → getD parts i 0 ≡ y
-  part-second i h l =
-      after (replicate a x) _ a i (length-replicate a x) h ∙ List·getD-append (replicate b y) _ 0 (i - a) (rw length-replicate (omega arith))
-      ∙ getD-replicate b (i - a) y 0 (omega arith)
+abbrev Widest : Sizes → List Part → Type 0
+Widest d [] = Unit {0}
+Widest d (part ∷ more) = ((i : ℕ) → fits d part i (widest d part) ≡ true) × Widest d more
 
-  part-third : (i : ℕ) → a + b ≤ i → i < a + b + c → getD parts i 0 ≡ z
-  part-third i h l =
-      after (replicate a x) _ a i (length-replicate a x) (omega arith) ∙ after (replicate b y) _ b (i - a) (length-replicate b y) (omega arith)
-      ∙ getD-replicate c (i - a - b) z 0 (omega arith)
+filled-fit : (d : Sizes) (parts : List Part) (xs : List ℕ) (at : ℕ) → length xs ≡ at → Widest d parts → Fit d parts (xs ++ filled d parts) at
+filled-fit d [] xs at e w = tt
+filled-fit d (part ∷ more) xs at e (f, g) =
+    let these = replicate (partLength d part) (widest d part) in
+    let long : length (xs ++ these) ≡ at + partLength d part = rw (length-append, length-replicate, e) in
+    ((λ i l. rw (among xs (filled d more) (partLength d part) (widest d part) at i e l) (f i)), rw append-assoc at (filled-fit d more (xs ++ these) (at + partLength d part) long g))
 
--- ---- a book of given sizes in which each number is as wide as it can be: the productions are the last nonterminal's, each action
--- reduces by the last of them, and each goto leads to the last state
-abbrev inParts : Sizes → List ℕ
-inParts d = parts (2 * d .p) (d .s * d .t) (d .s * d .n) (d .n - 1) (1 + 2 * d .p) (d .s)
+abbrev headOf : Sizes → List ℕ
+headOf d = 1 ∷ d .t ∷ d .n ∷ d .s ∷ d .p ∷ []
 
 unfoldable pub full : Sizes → List ℕ
-full d = (1 ∷ d .t ∷ d .n ∷ d .s ∷ d .p ∷ []) ++ inParts d
+full d = headOf d ++ filled d body
 
 module _ (d : Sizes) where
   full-length : length (full d) ≡ 5 + bodyLength d
@@ -212,14 +198,14 @@ module _ (d : Sizes) where
   full-sizes = refl
 
   full-bytes : length (bytesOf (full d))
-      ≡ length (bytesOf (1 ∷ d .t ∷ d .n ∷ d .s ∷ d .p ∷ []))
+      ≡ length (bytesOf (headOf d))
       + (2 * d .p * length (written (d .n - 1)) + (d .s * d .t * length (written (1 + 2 * d .p)) + d .s * d .n * length (written (d .s))))
   unfolding full
   full-bytes = simp (bytes-append, length-append, bytes-replicate) (omega arith)
 
   module _ (small : Small d) (some : 1 ≤ d .n) (one : 1 ≤ d .p) where
-    full-head : (j : ℕ) → j < 5 → headFault j (getD (full d) j 0) ≡ 0
-    unfolding full headFault
+    full-head : (j : ℕ) → j < 5 → fits d Head j (getD (full d) j 0) ≡ true
+    unfolding full fits
     full-head zero l = refl
     full-head (suc zero) l = simp (tests, small .some-terminal, small .terminals)
     full-head (suc (suc zero)) l = rw (le-leb 0 (d .n) (omega arith), le-leb (d .n) 32 (small .nonterminals))
@@ -227,28 +213,25 @@ module _ (d : Sizes) where
     full-head (suc (suc (suc (suc zero)))) l = rw (le-leb 0 (d .p) (omega arith), le-leb (d .p) 128 (small .productions))
     full-head (suc (suc (suc (suc (suc j))))) l = absurd (omega arith)
 
-    full-fits : (i : ℕ) → i < bodyLength d → fits d i (getD (full d) (5 + i) 0) ≡ true
-    unfolding full fits allowed
-    full-fits i l = rw (getD-append-add (1 ∷ d .t ∷ d .n ∷ d .s ∷ d .p ∷ []) (inParts d) i 0) (by-part (decLt i (2 * d .p)) (decLt i (2 * d .p + d .s * d .t)))
+    full-widest : Widest d body
+    unfolding fits allowed
+    full-widest =
+        let action : (i : ℕ) → fits d Actions i (1 + 2 * d .p) ≡ true = λ i. rw (reduction, lt-ltb (d .p - 1) (d .p) (omega arith)) in
+        let goto : (i : ℕ) → fits d Gotos i (d .s) ≡ true = λ i. le-leb (d .s) (d .s) (omega arith) in
+        ((λ i. by-turn i (ℕ-discrete (i % 2) 0)), (action, (goto, tt)))
       where
-        by-turn : i < 2 * d .p → Dec (i % 2 ≡ 0) → fits d i (d .n - 1) ≡ true
-        by-turn r (yes z) = rw (lt-ltb i (2 * d .p) r, eq-eqb (i % 2) 0 z, lt-ltb (d .n - 1) (d .n) (omega arith))
-        by-turn r (no z) = rw (lt-ltb i (2 * d .p) r, ne-eqb (i % 2) 0 z, le-leb (d .n - 1) 32 (omega (arith, small .nonterminals)))
+        by-turn : (i : ℕ) → Dec (i % 2 ≡ 0) → fits d Productions i (d .n - 1) ≡ true
+        by-turn i (yes z) = rw (eq-eqb (i % 2) 0 z, lt-ltb (d .n - 1) (d .n) (omega arith))
+        by-turn i (no z) = rw (ne-eqb (i % 2) 0 z, le-leb (d .n - 1) 32 (omega (arith, small .nonterminals)))
 
         reduction : actionOf (1 + 2 * d .p) ≡ Reduce (d .p - 1)
         reduction =
             let half : (2 * d .p - 1) / 2 ≡ d .p - 1 = omega arith in
             rw half at (action-odd (1 + 2 * d .p) (2 * d .p - 1) (omega arith) (omega arith))
 
-        by-part : Dec (i < 2 * d .p) → Dec (i < 2 * d .p + d .s * d .t) → fits d i (getD (inParts d) i 0) ≡ true
-        by-part (yes r) v = rw (part-first _ _ _ _ _ _ i r) (by-turn r (ℕ-discrete (i % 2) 0))
-        by-part (no r) (yes v) =
-            rw (part-second (2 * d .p) (d .s * d .t) (d .s * d .n) _ _ _ i (omega arith) v, le-ltb i (2 * d .p) (omega arith), lt-ltb i (2 * d .p + d .s * d .t) v, reduction, lt-ltb (d .p - 1) (d .p) (omega arith))
-        by-part (no r) (no v) =
-            rw (part-third (2 * d .p) (d .s * d .t) (d .s * d .n) _ _ _ i (omega arith) l, le-ltb i (2 * d .p) (omega arith), le-ltb i (2 * d .p + d .s * d .t) (omega arith), le-leb (d .s) (d .s) (omega arith))
-
     full-accepted : ofCells (full d) ≡ read (full d) (length (full d))
-    full-accepted = accepted d (full d) full-sizes full-length full-head full-fits
+    unfolding full
+    full-accepted = accepted d (full d) full-sizes full-length full-head (filled-fit d body (headOf d) 5 refl full-widest)
 
 -- ---- what a book is written as are bytes
 below-append : (m : ℕ) (a b : List ℕ) → ((i : ℕ) → getD a i 0 < m) → ((i : ℕ) → getD b i 0 < m) → (i : ℕ) → getD (a ++ b) i 0 < m

@@ -1,28 +1,28 @@
 -- Laws of the tables: what holds of every valid list of cells, and of the tables that it holds. Assumes nothing.
-use mathlib.Core.Bool.{Bool, true, false, cond, _&&_, and-false, false≢true}
-use mathlib.Core.List.{List}
+use mathlib.Core.Bool.{true, cond, _&&_, and-false, false≢true}
+use mathlib.Core.List.{List, []}
 use mathlib.Core.Logic.{_≢_}
-use mathlib.Core.Path.{_≡_, refl, sym, _∙_}
-use Prim.Native.Nat.{ℕ, suc, _+_, _*_, _-_, _%_, _≤_, _<_}
+use mathlib.Core.Path.{_≡_, sym, _∙_}
+use Prim.Native.Nat.{ℕ, suc, _+_, _*_, _%_, _≤_, _<_}
 use native.Mathlib.Decide.{decLt, ℕ-discrete}
 use native.Mathlib.Nat.{zero-add, mul-add-mod-self-right, mod-eq-of-lt}
 use native.Mathlib.Omega.{arith}
 use borrow.Author.Tests.{lt-ltb, le-ltb, eq-eqb, ne-eqb, ltb-true, leb-true}
 use lib.Dec.{ltb}
-use lib.ListN.{length, getD, drop}
-use lib.Seq.{getD-drop, getD-take}
+use lib.ListN.{length, getD}
 use Rattle.number.specs.TestLaws.{tests}
 use Rattle.book.specs.Action.{actionOf}
-use Rattle.book.specs.Book.{cellAt, read, row, ofCells, bookIn, checked}
-use Rattle.book.specs.BookLaws.{book-whole, cells-row, cells-valid, checked-valid, whole-small, whole-count, whole-sizes}
+use Rattle.book.specs.Book.{cellAt, read, body, ofCells, bookIn, checked}
+use Rattle.book.specs.BookLaws.{book-whole, cells-valid, checked-valid, whole-small, whole-count, whole-sizes, whole-segments}
+use Rattle.book.specs.CellsLaws.{Fit, part-fits, parts-fit}
 use Rattle.book.specs.IndexLaws.{index-below}
-use Rattle.book.specs.Range.{allowed, fits, headFault, bodyFault, bodyLength, faultUnless}
-use Rattle.book.specs.RangeLaws.{Small}
-use Rattle.book.specs.RowLaws.{row-clean}
+use Rattle.book.specs.Range.{allowed, fits}
+use Rattle.book.specs.RangeLaws.{Small, bodyLength}
 use Rattle.book.specs.Tables.{Tables, sizesOf, tablesOf, actionAt, gotoAt}
 use Rattle.book.specs.declared.Action.{Action}
 use Rattle.book.specs.declared.Action.the-variants.{Error, Shift, Reduce}
 use Rattle.book.specs.declared.Checked.the-variants.{Valid}
+use Rattle.book.specs.declared.Part.the-variants.{Head}
 use Rattle.book.specs.declared.Sizes.{Sizes}
 
 -- the cells hold a book of the sizes d
@@ -45,55 +45,44 @@ valid-holds cells d e =
         → bookIn (cellAt cells) (length cells) ≡ read cells (length cells) → d ≡ sizesOf cells
     found (out, next, is, sizes) book = let same : out ≡ cells = cc in rw same at sizes
 
-fault-unless : (b : Bool) (k : ℕ) → faultUnless b (suc k) ≡ 0 → b ≡ true
-fault-unless true k e = refl
-fault-unless false k e = absurd (omega arith)
+-- each cell is in its range
+module _ {d : Sizes} {cells : List ℕ} (h : Holds d cells) where
+  pub head-fits : (j : ℕ) → j < 5 → fits d Head j (getD cells j 0) ≡ true
+  unfolding ofCells fits
+  head-fits j l =
+      let w = book-whole (cellAt cells) (length cells) cells (length cells) (h .book) in
+      rw zero-add at (part-fits cells (sizesOf []) Head 0 (w .head) (w .at) (w .first) (omega arith) j l)
 
--- each cell after the head is in its range
-pub cell-fits : {d : Sizes} {cells : List ℕ} → Holds d cells → (i : ℕ) → i < bodyLength d → fits d i (getD cells (5 + i) 0) ≡ true
-unfolding ofCells bodyFault
-cell-fits {d} {cells} h i l =
-    let w = book-whole (cellAt cells) (length cells) cells (length cells) (h .book) in
-    let same : sizesOf (w .head) ≡ d = sym (whole-sizes w) ∙ sym (h .sizes) in
-    let p = cells-row cells headFault 5 0 0 (w .head) (w .at) (w .first) (omega arith) in
-    let second : row (cellAt cells) (bodyFault d) (bodyLength d) 0 5 ≡ read (w .body) (length cells) = rw (same, p .after) at (w .second) in
-    let q = cells-row cells (bodyFault d) (bodyLength d) 0 5 (w .body) (length cells) second (omega (arith, p .within)) in
-    let there : getD (w .body) i 0 ≡ getD cells (5 + i) 0 = rw (q .part, getD-take (bodyLength d) (drop 5 cells) i 0 l, getD-drop) in
-    fault-unless _ 4 (rw (zero-add, there) at (row-clean (cellAt cells) (bodyFault d) (bodyLength d) 0 5 (w .body) (length cells) second i l))
+  pub body-fits : Fit d body cells 5
+  unfolding ofCells
+  body-fits =
+      let w = book-whole (cellAt cells) (length cells) cells (length cells) (h .book) in
+      let same : sizesOf (w .head) ≡ d = sym (whole-sizes w) ∙ sym (h .sizes) in
+      let (p, q) = whole-segments w in
+      let five : w .at ≡ 5 = omega (arith, p .after) in
+      parts-fit cells d body 5 (w .rest) (length cells) (rw (same, five) at (w .second)) (omega (arith, p .within))
 
 -- ---- the four kinds of cell
 module _ {d : Sizes} {cells : List ℕ} (h : Holds d cells) where
   pub left-side-below : (p : ℕ) → p < d .p → getD cells (5 + 2 * p) 0 < d .n
   unfolding fits
-  left-side-below p l =
-      let e = cell-fits h (2 * p) (omega arith) in
-      ltb-true _ _ (rw (lt-ltb (2 * p) (2 * d .p) (omega arith), eq-eqb (2 * p % 2) 0 (omega arith)) at e)
+  left-side-below p l = ltb-true _ _ (rw (eq-eqb (2 * p % 2) 0 (omega arith)) at (body-fits h .0 (2 * p) (omega arith)))
 
   pub length-most : (p : ℕ) → p < d .p → getD cells (6 + 2 * p) 0 ≤ 32
   unfolding fits
   length-most p l =
-      let e = cell-fits h (1 + 2 * p) (omega arith) in
       let i : 5 + (1 + 2 * p) ≡ 6 + 2 * p = omega arith in
-      leb-true _ _ (rw (i, lt-ltb (1 + 2 * p) (2 * d .p) (omega arith), ne-eqb ((1 + 2 * p) % 2) 0 (omega arith)) at e)
+      leb-true _ _ (rw (i, ne-eqb ((1 + 2 * p) % 2) 0 (omega arith)) at (body-fits h .0 (1 + 2 * p) (omega arith)))
 
   pub action-allowed : (q a : ℕ) → q < d .s → a < d .t → allowed d a (actionOf (getD cells (actionAt d q a) 0)) ≡ true
   unfolding fits
   action-allowed q a lq la =
-      let b = index-below (d .s) (d .t) q a lq la in
-      let e = cell-fits h (2 * d .p + (q * d .t + a)) (omega arith) in
-      let i : 5 + (2 * d .p + (q * d .t + a)) ≡ actionAt d q a = omega arith in
-      let j : 2 * d .p + (q * d .t + a) - 2 * d .p ≡ q * d .t + a = omega arith in
       let k : (q * d .t + a) % d .t ≡ a = mul-add-mod-self-right q (d .t) a ∙ mod-eq-of-lt la in
-      rw (i, le-ltb (2 * d .p + (q * d .t + a)) (2 * d .p) (omega arith), lt-ltb (2 * d .p + (q * d .t + a)) (2 * d .p + d .s * d .t) (omega arith), j, k) at e
+      rw k at (body-fits h .1 .0 (q * d .t + a) (index-below (d .s) (d .t) q a lq la))
 
   pub goto-most : (q X : ℕ) → q < d .s → X < d .n → getD cells (gotoAt d q X) 0 ≤ d .s
   unfolding fits
-  goto-most q X lq lX =
-      let b = index-below (d .s) (d .n) q X lq lX in
-      let e = cell-fits h (2 * d .p + d .s * d .t + (q * d .n + X)) (omega arith) in
-      let i : 5 + (2 * d .p + d .s * d .t + (q * d .n + X)) ≡ gotoAt d q X = omega arith in
-      leb-true _ _
-      (rw (i, le-ltb (2 * d .p + d .s * d .t + (q * d .n + X)) (2 * d .p) (omega arith), le-ltb (2 * d .p + d .s * d .t + (q * d .n + X)) (2 * d .p + d .s * d .t) (omega arith)) at e)
+  goto-most q X lq lX = leb-true _ _ (body-fits h .1 .1 .0 (q * d .n + X) (index-below (d .s) (d .n) q X lq lX))
 
 -- ---- the tables
 -- what stands behind the guard of two bounds

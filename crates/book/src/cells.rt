@@ -3,17 +3,17 @@ ghost use mathlib.Core.Path.{_≡_};
 ghost use Prim.Native.Nat.{_≤_};
 ghost use lib.ListN.{length};
 ghost use Rattle.number.specs.Lent.{over};
-ghost use Rattle.book.specs.Range.{headFault, bodyFault, bodyLength};
-ghost use Rattle.book.specs.RangeLaws.{Small};
-ghost use Rattle.book.specs.Book.{cellAt, row, ofCells, checked, bytesOf, writing};
-ghost use Rattle.book.specs.RowLaws.{ends};
+ghost use Rattle.book.specs.RangeLaws.{Few};
+ghost use Rattle.book.specs.Book.{cellAt, partIn, partsIn, body, ofCells, checked, bytesOf, writing};
+ghost use Rattle.book.specs.RowLaws.{after, ends};
+ghost use Rattle.book.specs.BookLaws.{headIn};
 use crate::Checked;
+use crate::Part;
 use crate::Sizes;
 use crate::Written;
-use crate::range::admit_body;
-use crate::range::admit_head;
-use crate::range::body_length;
+use crate::range::admit;
 use crate::range::close;
+use crate::range::part_length;
 use crate::range::sizes;
 use number::Cursor;
 use number::Number;
@@ -31,33 +31,19 @@ fn cell_at(cells: &[u16], i: usize) -> Number
     })
 }
 
-// The five numbers of the head; answers where they end, or the refusal.
-fn head_row(cells: &[u16]) -> Number
-    ensures { λ r. ⌜ r ≡ ends (row (cellAt (now (cells .entry))) headFault 5 0 0) ⌝ }
+// The numbers of a part from where the one before it ended; answers where they end, or the first refusal.
+fn part_row(cells: &[u16], d: Sizes, part: Part, last: Number) -> Number
+    requires { ⌜ Few d ⌝ }
+    ensures { λ r. ⌜ r ≡ after last (λ at. ends (partIn (cellAt (now (cells .entry))) d part at)) ⌝ }
 {
-    let mut at: usize = 0;
-    let mut i: usize = 0;
-    while i < 5 {
-        let found = admit_head(cell_at(cells, at), i, at);
-        let Number::Value(_, next) = found else {
-            return found;
-        };
-        at = next.at;
-        i += 1;
-    }
-    Number::Value(0, Cursor { at })
-}
-
-// The numbers after the head; answers where they end, or the refusal.
-fn body_row(cells: &[u16], d: Sizes, start: usize) -> Number
-    requires { ⌜ Small d ⌝ }
-    ensures { λ r. ⌜ r ≡ ends (row (cellAt (now (cells .entry))) (bodyFault d) (bodyLength d) 0 start) ⌝ }
-{
-    let n = body_length(d);
-    let mut at = start;
+    let Number::Value(_, start) = last else {
+        return last;
+    };
+    let n = part_length(d, part);
+    let mut at = start.at;
     let mut i: usize = 0;
     while i < n {
-        let found = admit_body(cell_at(cells, at), d, i, at);
+        let found = admit(cell_at(cells, at), d, part, i, at);
         let Number::Value(_, next) = found else {
             return found;
         };
@@ -67,16 +53,43 @@ fn body_row(cells: &[u16], d: Sizes, start: usize) -> Number
     Number::Value(0, Cursor { at })
 }
 
-// The sizes of the book in the cells, or refusal 1, 3, 4, 5 or 6 with the cell's index.
+// The head, which depends on no sizes.
+fn head_row(cells: &[u16]) -> Number
+    ensures { λ r. ⌜ r ≡ ends (headIn (cellAt (now (cells .entry)))) ⌝ }
+{
+    part_row(
+        cells,
+        Sizes {
+            t: 0,
+            n: 0,
+            s: 0,
+            p: 0,
+        },
+        Part::Head,
+        Number::Value(0, Cursor { at: 0 }),
+    )
+}
+
+// The parts after the head.
+fn body_rows(cells: &[u16], d: Sizes, head: Number) -> Number
+    requires { ⌜ Few d ⌝ }
+    ensures { λ r. ⌜ r ≡ after head (λ at. ends (partsIn (cellAt (now (cells .entry))) d body at)) ⌝ }
+{
+    let productions = part_row(cells, d, Part::Productions, head);
+    let actions = part_row(cells, d, Part::Actions, productions);
+    part_row(cells, d, Part::Gotos, actions)
+}
+
+// The sizes of the book in the cells, or refusal 1, 3, 4, 5, 14, 15 or 6 with the cell's index.
 pub fn check(cells: &[u16]) -> Checked
     ensures { λ r. ⌜ r ≡ checked (ofCells (now (cells .entry))) ⌝ }
 {
-    match head_row(cells) {
+    let last = head_row(cells);
+    match last {
         Number::Refused(r) => Checked::Refused(r),
-        Number::Value(_, next) => {
+        Number::Value(_, _) => {
             let d = sizes(cells);
-            let at = next.at;
-            close(body_row(cells, d, at), d, cells.len())
+            close(body_rows(cells, d, last), d, cells.len())
         }
     }
 }

@@ -32,6 +32,14 @@ pub struct Sizes {
     pub p: usize,
 }
 
+// The parts of a book in their order, each a row of numbers.
+pub enum Part {
+    Head,
+    Productions,
+    Actions,
+    Gotos,
+}
+
 pub enum Checked {
     Valid(Sizes),
     Refused(Refusal),

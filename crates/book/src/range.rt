@@ -1,18 +1,16 @@
 // Which numbers are in range where.
 ghost use mathlib.Core.Path.{_≡_};
-ghost use Prim.Native.Nat.{_+_, _*_, _-_, _%_, _≤_, _<_};
-ghost use mathlib.Core.Bool.{cond};
-ghost use lib.Dec.{eqb};
+ghost use Prim.Native.Nat.{_+_, _*_, _≤_, _<_};
 ghost use lib.ListN.{length};
-ghost use Rattle.number.specs.Number.{refusal};
 ghost use Rattle.book.specs.Action.{actionOf};
 ghost use Rattle.book.specs.Book.{admitted};
 ghost use Rattle.book.specs.BookLaws.{closing};
 ghost use Rattle.book.specs.Tables.{sizesOf};
-ghost use Rattle.book.specs.Range.{headFault, headNumber, bodyFault, bodyLength, allowed, fits};
-ghost use Rattle.book.specs.RangeLaws.{Small};
+ghost use Rattle.book.specs.Range.{partLength, allowed, fits, faultNumber, fault};
+ghost use Rattle.book.specs.RangeLaws.{Few, bodyLength};
 use crate::Action;
 use crate::Checked;
+use crate::Part;
 use crate::Sizes;
 use crate::actions::decode;
 use number::Number;
@@ -22,25 +20,25 @@ const LOWEST: [u16; 5] = [1, 1, 0, 1, 0];
 
 const HIGHEST: [u16; 5] = [1, 32, 32, 128, 128];
 
-// The refusal of a number i of the head that is out of range.
-fn head_number(i: usize) -> u8
-    ensures { λ r. ⌜ r ≡ headNumber i ⌝ }
+// How many numbers a part has.
+pub fn part_length(d: Sizes, part: Part) -> usize
+    requires { ⌜ Few d ⌝ }
+    ensures { λ r. ⌜ r ≡ partLength d part ⌝ }
 {
-    if i == 0 { 3 } else { 4 }
+    match part {
+        Part::Head => 5,
+        Part::Productions => 2 * d.p,
+        Part::Actions => d.s * d.t,
+        Part::Gotos => d.s * d.n,
+    }
 }
 
-// The refusal of v as number i of the head, 0 if it is in range.
-pub fn head_fault(i: usize, v: u16) -> u8
-    requires { ⌜ i < 5 ⌝ }
-    ensures { λ r. ⌜ r ≡ headFault i v ⌝ }
+// How many numbers follow the head.
+pub fn body_length(d: Sizes) -> usize
+    requires { ⌜ Few d ⌝ }
+    ensures { λ r. ⌜ r ≡ bodyLength d ⌝ }
 {
-    if v < LOWEST[i] {
-        return head_number(i);
-    }
-    if HIGHEST[i] < v {
-        return head_number(i);
-    }
-    0
+    2 * d.p + d.s * d.t + d.s * d.n
 }
 
 // Whether the cell's action may stand under the terminal t.
@@ -60,71 +58,54 @@ fn action_allowed(d: Sizes, t: usize, cell: u16) -> bool
     }
 }
 
-// Whether v may stand as number i after the head.
-fn in_range(d: Sizes, i: usize, v: u16) -> bool
-    requires { ⌜ Small d ⌝ }
-    ensures { λ r. ⌜ r ≡ fits d i v ⌝ }
+// Whether v may stand as number i of a part.
+fn in_range(d: Sizes, part: Part, i: usize, v: u16) -> bool
+    requires { ⌜ i < partLength d part ⌝ }
+    ensures { λ r. ⌜ r ≡ fits d part i v ⌝ }
 {
-    let actions = 2 * d.p;
-    if i < actions {
-        if i % 2 == 0 {
-            return (v as usize) < d.n;
+    match part {
+        Part::Head => LOWEST[i] <= v && v <= HIGHEST[i],
+        Part::Productions => {
+            if i % 2 == 0 {
+                return (v as usize) < d.n;
+            }
+            v <= 32
         }
-        return v <= 32;
+        Part::Actions => action_allowed(d, i % d.t, v),
+        Part::Gotos => (v as usize) <= d.s,
     }
-    let t = d.t;
-    if i < actions + d.s * t {
-        return action_allowed(d, (i - actions) % t, v);
+}
+
+// The number that refuses number i of a part.
+fn fault_number(part: Part, i: usize) -> u8
+    ensures { λ r. ⌜ r ≡ faultNumber part i ⌝ }
+{
+    match part {
+        Part::Head => {
+            if i == 0 {
+                return 3;
+            }
+            4
+        }
+        Part::Productions => 5,
+        Part::Actions => 14,
+        Part::Gotos => 15,
     }
-    (v as usize) <= d.s
 }
 
-// The refusal of v as number i after the head, 0 if it is in range.
-pub fn body_fault(d: Sizes, i: usize, v: u16) -> u8
-    requires { ⌜ Small d ⌝ }
-    ensures { λ r. ⌜ r ≡ bodyFault d i v ⌝ }
-{
-    if in_range(d, i, v) { 0 } else { 5 }
-}
-
-// How many numbers follow the head.
-pub fn body_length(d: Sizes) -> usize
-    requires { ⌜ Small d ⌝ }
-    ensures { λ r. ⌜ r ≡ bodyLength d ⌝ }
-{
-    2 * d.p + d.s * d.t + d.s * d.n
-}
-
-// A number of the head, as it was found at a place, or its refusal.
-pub fn admit_head(found: Number, i: usize, at: usize) -> Number
-    requires { ⌜ i < 5 ⌝ }
-    ensures { λ r. ⌜ r ≡ admitted (headFault i) at found ⌝ }
+// Number i of a part, as it was found at a place, or its refusal.
+pub fn admit(found: Number, d: Sizes, part: Part, i: usize, at: usize) -> Number
+    requires { ⌜ i < partLength d part ⌝ }
+    ensures { λ r. ⌜ r ≡ admitted (fault d part i) at found ⌝ }
 {
     let Number::Value(v, _) = found else {
         return found;
     };
-    admit(found, head_fault(i, v), at)
-}
-
-// A number after the head, as it was found at a place, or its refusal.
-pub fn admit_body(found: Number, d: Sizes, i: usize, at: usize) -> Number
-    requires { ⌜ Small d ⌝ }
-    ensures { λ r. ⌜ r ≡ admitted (bodyFault d i) at found ⌝ }
-{
-    let Number::Value(v, _) = found else {
-        return found;
-    };
-    admit(found, body_fault(d, i, v), at)
-}
-
-fn admit(found: Number, fault: u8, at: usize) -> Number
-    ensures { λ r. ⌜ r ≡ cond (eqb fault 0) found (refusal fault at) ⌝ }
-{
-    if fault == 0 {
+    if in_range(d, part, i, v) {
         return found;
     }
     Number::Refused(Refusal {
-        number: fault,
+        number: fault_number(part, i),
         place: at,
     })
 }

@@ -1,13 +1,12 @@
 -- Laws of one entry: how it is read part by part, and what holds of one that was read. Assumes nothing.
 use mathlib.Core.Path.{_≡_, refl, sym, _∙_, ap}
-use mathlib.Core.List.{List, [], _∷_}
+use mathlib.Core.List.{List, [], _∷_, _++_}
 use Prim.Native.Nat.{ℕ, zero, suc, _+_, _*_, _%_, _-_, _≤_, _<_}
 use native.Mathlib.Decide.{decLe, decLt, ℕ-discrete}
-use native.Mathlib.Numerals.{add-one}
 use native.Mathlib.Omega.{arith}
 use borrow.Author.Tests.{lt-ltb, le-ltb, le-leb, lt-leb, eq-eqb}
 use lib.ListN.{length, getD, take, drop, length-drop, drop-of-length-le}
-use lib.Seq.{take-all, drop-cons}
+use lib.Seq.{take-all}
 use Rattle.number.specs.Number.{numberAt, first, second, third, value}
 use Rattle.number.specs.NumberLaws.{byte-at, value-is, refused-not-value}
 use Rattle.number.specs.TestLaws.{tests}
@@ -15,9 +14,10 @@ use Rattle.number.specs.declared.Cursor.{Cursor}
 use Rattle.number.specs.declared.Number.{Number}
 use Rattle.number.specs.declared.Number.the-variants.{Value, Refused}
 use Rattle.number.specs.declared.Refusal.{Refusal}
-use Rattle.book.specs.Book.{Row, read, refused, admitted, row}
-use Rattle.book.specs.BookLaws.{Part, ends-read, ends-refused}
-use Rattle.book.specs.RowLaws.{ends, row-front, row-empty, row-clean}
+use Rattle.book.specs.Book.{Row, read, refused, admitted, row, byIndex}
+use Rattle.book.specs.BookLaws.{ends-read, ends-refused}
+use Rattle.book.specs.CellsLaws.{row-segment}
+use Rattle.book.specs.RowLaws.{ends, row-front, row-clean}
 use Rattle.lists.specs.Entry.{outside, lengthFault, symbolFault, symbolRow, sentence, entryAt, lookaheadFault, entryEnded, afterSymbols, part}
 use Rattle.lists.specs.declared.Entry.{Entry}
 use Rattle.lists.specs.declared.Step.the-variants.{Found, Refused as StepRefused}
@@ -67,14 +67,14 @@ admitted-found fault at (Value w c) v next e = go (ℕ-discrete (fault w) 0)
     go (no z) = absurd (refused-not-value _ v (next .at) (simp tests at e))
 
 -- a row that was read is read by other faults that find none
-pub row-refault : (source : ℕ → Number) (fault other : ℕ → ℕ → ℕ) → ((i v : ℕ) → fault i v ≡ 0 → other i v ≡ 0) → (k i at : ℕ) (vs : List ℕ) (next : ℕ)
-    → row source fault k i at ≡ read vs next → row source other k i at ≡ read vs next
+pub row-refault : (source : ℕ → Number) (fault other : List ℕ → ℕ → ℕ) → ((seen : List ℕ) (v : ℕ) → fault seen v ≡ 0 → other seen v ≡ 0)
+    → (k : ℕ) (seen : List ℕ) (at : ℕ) (vs : List ℕ) (next : ℕ) → row source fault k seen at ≡ read vs next → row source other k seen at ≡ read vs next
 unfolding row
-row-refault source fault other h zero i at vs next e = e
-row-refault source fault other h (suc k) i at vs next e =
-    let f = row-front source fault k i at vs next e in
-    let r = row-refault source fault other h k (suc i) (f .cursor .at) (f .rest) next (f .onward) in
-    rw (f .found, eq-eqb (other i (f .v)) 0 (h i (f .v) (f .clean)), r)
+row-refault source fault other h zero seen at vs next e = e
+row-refault source fault other h (suc k) seen at vs next e =
+    let f = row-front source fault k seen at vs next e in
+    let r = row-refault source fault other h k (seen ++ (f .v ∷ [])) (f .cursor .at) (f .rest) next (f .onward) in
+    rw (f .found, eq-eqb (other seen (f .v)) 0 (h seen (f .v) (f .clean)), r)
     (ap (λ (l : List ℕ). read l next) (sym (f .split)))
 
 -- ---- an entry that was read
@@ -124,9 +124,9 @@ module _ (t : ℕ) (bytes : List ℕ) (at : ℕ) where
   unfolding entryAt
   entry-wider u h e next f =
       let p = entry-parts e next f in
-      let wide : (i v : ℕ) → symbolFault t i v ≡ 0 → symbolFault u i v ≡ 0 = λ i v z. (let b = inside 1 t 6 v z in outside-none 1 u 7 v (b .0) (omega arith)) in
+      let wide : (seen : List ℕ) (v : ℕ) → byIndex (symbolFault t) seen v ≡ 0 → byIndex (symbolFault u) seen v ≡ 0 = λ seen v z. (let b = inside 1 t 6 v z in outside-none 1 u 7 v (b .0) (omega arith)) in
       let row-of : symbolRow u bytes (e .start) (e .len) ≡ read (p .symbols) (p .last) =
-      row-refault (numberAt bytes) (symbolFault t) (symbolFault u) wide (e .len) 0 (e .start) (p .symbols) (p .last) (p .spelled) in
+      row-refault (numberAt bytes) (byIndex (symbolFault t)) (byIndex (symbolFault u)) wide (e .len) [] (e .start) (p .symbols) (p .last) (p .spelled) in
       let low : lengthFault (e .len) ≡ 0 = outside-none 0 1001 8 (e .len) (omega arith) (omega (arith, p .short)) in
       let look : lookaheadFault u (e .lookahead) ≡ 0 = outside-none 0 u 11 (e .lookahead) (omega arith) (omega (arith, p .below)) in
       rw (p .begins, eq-eqb (lengthFault (e .len)) 0 low, row-of, p .looks, eq-eqb (lookaheadFault u (e .lookahead)) 0 look)
@@ -167,23 +167,6 @@ one-byte bytes at v next h e = go (decLt at (length bytes)) (decLt (getD bytes a
         let (i, j) = value-is (getD bytes at 0) (at + 1) v (next .at) (rw (byte-at bytes at l, lt-ltb (getD bytes at 0) 128 d) at e) in
         (l, sym i, sym j)
 
--- a row of symbols is a part of the bytes
-pub symbols-part : (t : ℕ) (bytes : List ℕ) → t ≤ 128 → (k i at : ℕ) (vs : List ℕ) (next : ℕ) → row (numberAt bytes) (symbolFault t) k i at ≡ read vs next
-    → at ≤ length bytes → Part bytes k at vs next
-symbols-part t bytes few zero i at vs next e h =
-    let (p, q) = row-empty (numberAt bytes) (symbolFault t) i at vs next e in
-    record { part = sym p; after = omega arith; within = omega arith }
-symbols-part t bytes few (suc k) i at vs next e h =
-    let f = row-front (numberAt bytes) (symbolFault t) k i at vs next e in
-    let (a, b) = inside 1 t 6 (f .v) (f .clean) in
-    let (l, p, q) = one-byte bytes at (f .v) (f .cursor) (omega arith) (f .found) in
-    let r = symbols-part t bytes few k (suc i) (f .cursor .at) (f .rest) next (f .onward) (omega arith) in
-    record {
-      part = f .split ∙ rw (p, r .part, q, add-one, drop-cons bytes at 0 l);
-      after = omega (arith, r .after, q);
-      within = omega (arith, r .within, q);
-    }
-
 -- ---- a number that was read ends within the bytes
 first-within : (at : ℕ) (s : List ℕ) (v next : ℕ) → first at s ≡ value v next → (next ≤ at + length s) × (1 ≤ length s)
 unfolding first
@@ -211,12 +194,14 @@ pub record Spelled (t : ℕ) (bytes : List ℕ) (e : Entry) : Type 0 where
 pub entry-spelled : (t : ℕ) (bytes : List ℕ) (at : ℕ) (e : Entry) (next : Cursor) → t ≤ 128 → entryAt t bytes at ≡ Found e next → Spelled t bytes e
 entry-spelled t bytes at e next few f =
     let p = entry-parts t bytes at e next f in
-    let q = symbols-part t bytes few (e .len) 0 (e .start) (p .symbols) (p .last) (p .spelled) (number-within bytes at (e .len) (e .start) (p .begins)) in
+    let one : (seen : List ℕ) (i v : ℕ) (c : Cursor) → numberAt bytes i ≡ Value v c → byIndex (symbolFault t) seen v ≡ 0
+    → (i < length bytes) × (v ≡ getD bytes i 0) × (c .at ≡ i + 1) = λ seen i v c g z. (let (a, b) = inside 1 t 6 v z in one-byte bytes i v c (omega arith) g) in
+    let q = row-segment (numberAt bytes) (byIndex (symbolFault t)) bytes one (e .len) [] (e .start) (p .symbols) (p .last) (p .spelled) (number-within bytes at (e .len) (e .start) (p .begins)) in
     let row : symbolRow t bytes (e .start) (e .len) ≡ read (sentence bytes e) (e .start + e .len) = rw (q .part, q .after) at (p .spelled) in
     record {
       row = row;
       within = q .within;
       short = p .short;
-      symbol = λ i h. inside 1 t 6 _ (row-clean (numberAt bytes) (symbolFault t) (e .len) 0 (e .start) (sentence bytes e) (e .start + e .len) row i h);
+      symbol = λ i h. inside 1 t 6 _ (row-clean (numberAt bytes) (byIndex (symbolFault t)) (e .len) [] (e .start) (sentence bytes e) (e .start + e .len) row i h);
       below = p .below;
     }

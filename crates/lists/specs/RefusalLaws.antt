@@ -12,9 +12,12 @@ use Rattle.number.specs.Number.{numberAt, refusal, value, first, second, third}
 use Rattle.number.specs.declared.Number.{Number}
 use Rattle.number.specs.declared.Number.the-variants.{Value, Refused}
 use Rattle.number.specs.declared.Refusal.{Refusal}
-use Rattle.book.specs.Book.{Row, read, refused as unread, before, admitted, followed, row, whole, onward, bookIn, ofCells, cellAt}
-use Rattle.book.specs.Range.{headFault, bodyFault, bodyLength}
+use Rattle.book.specs.Book.{Row, read, refused as unread, before, admitted, followed, row, byIndex, joined, partIn, partsIn, body, whole, bookIn, ofCells, cellAt}
+use Rattle.book.specs.Range.{fault, partLength}
 use Rattle.book.specs.Tables.{sizesOf}
+use Rattle.book.specs.declared.Part.{Part}
+use Rattle.book.specs.declared.Part.the-variants.{Head}
+use Rattle.book.specs.declared.Sizes.{Sizes}
 use Rattle.lists.specs.Entry.{lengthFault, symbolFault, symbolRow, lookaheadFault, entryEnded, afterSymbols, afterLength, entryAt}
 use Rattle.lists.specs.List.{Listed, entries, refused, before as ahead, followed as onto, entriesAt, countFault, closed, afterCount, listOf, against, listIn}
 use Rattle.lists.specs.declared.Entry.{Entry}
@@ -70,38 +73,50 @@ abbrev RowNumbered : Row → Type 0
 RowNumbered (read vs at) = Unit {0}
 RowNumbered (unread r) = 1 ≤ r .number
 
-before-numbered : (v : ℕ) (w : Row) → RowNumbered w → RowNumbered (before v w)
-before-numbered v (read vs at) p = tt
-before-numbered v (unread r) p = p
+before-numbered : (vs : List ℕ) (w : Row) → RowNumbered w → RowNumbered (before vs w)
+before-numbered vs (read ws at) p = tt
+before-numbered vs (unread r) p = p
 
-row-numbered : (source : ℕ → Number) → ((at : ℕ) → Numbered (source at)) → (fault : ℕ → ℕ → ℕ) (k i at : ℕ) → RowNumbered (row source fault k i at)
-unfolding row
-row-numbered source known fault zero i at = tt
-row-numbered source known fault (suc k) i at =
-    by-number (admitted (fault i) at (source at)) (admitted-numbered (fault i) at (source at) (known at)) (λ next. row-numbered source known fault k (suc i) next)
-  where
-    by-number : (n : Number) → Numbered n → ((next : ℕ) → RowNumbered (row source fault k (suc i) next)) → RowNumbered (followed n (λ next. row source fault k (suc i) next))
-    by-number (Refused r) p rest = p
-    by-number (Value v next) p rest = before-numbered v (row source fault k (suc i) (next .at)) (rest (next .at))
+joined-numbered : (w : Row) (rest : List ℕ → ℕ → Row) → RowNumbered w → ((vs : List ℕ) (at : ℕ) → RowNumbered (rest vs at)) → RowNumbered (joined w rest)
+joined-numbered (unread r) rest p q = p
+joined-numbered (read vs at) rest p q = before-numbered vs (rest vs at) (q vs at)
+
+module _ (source : ℕ → Number) (known : (at : ℕ) → Numbered (source at)) where
+  row-numbered : (fault : List ℕ → ℕ → ℕ) (k : ℕ) (seen : List ℕ) (at : ℕ) → RowNumbered (row source fault k seen at)
+  unfolding row
+  row-numbered fault zero seen at = tt
+  row-numbered fault (suc k) seen at =
+      by-number (admitted (fault seen) at (source at)) (admitted-numbered (fault seen) at (source at) (known at)) (λ v next. row source fault k (seen ++ (v ∷ [])) next) (λ v next. row-numbered fault k (seen ++ (v ∷ [])) next)
+    where
+      by-number : (n : Number) → Numbered n → (rest : ℕ → ℕ → Row) → ((v next : ℕ) → RowNumbered (rest v next)) → RowNumbered (followed n rest)
+      by-number (Refused r) p rest q = p
+      by-number (Value v next) p rest q = before-numbered (v ∷ []) (rest v (next .at)) (q v (next .at))
+
+  part-numbered : (d : Sizes) (part : Part) (at : ℕ) → RowNumbered (partIn source d part at)
+  part-numbered d part at = row-numbered (byIndex (fault d part)) (partLength d part) [] at
+
+  parts-numbered : (d : Sizes) (parts : List Part) (at : ℕ) → RowNumbered (partsIn source d parts at)
+  unfolding partsIn
+  parts-numbered d [] at = tt
+  parts-numbered d (part ∷ more) at =
+      joined-numbered (partIn source d part at) (λ vs next. partsIn source d more next) (part-numbered d part at) (λ vs next. parts-numbered d more next)
 
 -- ---- a book
-whole-numbered : (end : ℕ) (head : List ℕ) (w : Row) → RowNumbered w → RowNumbered (whole end head w)
-whole-numbered end head (unread r) p = p
-whole-numbered end head (read body at) p = by-end (ltb at end)
+whole-numbered : (end : ℕ) (w : Row) → RowNumbered w → RowNumbered (whole end w)
+whole-numbered end (unread r) p = p
+whole-numbered end (read cells at) p = by-end (ltb at end)
   where
-    by-end : (b : Bool) → RowNumbered (cond b (unread (record { number = 6; place = at })) (read (head ++ body) at))
+    by-end : (b : Bool) → RowNumbered (cond b (unread (record { number = 6; place = at })) (read cells at))
     by-end true = omega arith
     by-end false = tt
 
 cells-numbered : (cells : List ℕ) → RowNumbered (ofCells cells)
 unfolding ofCells bookIn
-cells-numbered cells = by-head (row (cellAt cells) headFault 5 0 0) (row-numbered (cellAt cells) (cell-numbered cells) headFault 5 0 0)
-  where
-    by-head : (w : Row) → RowNumbered w → RowNumbered (onward (cellAt cells) (length cells) w)
-    by-head (unread r) p = p
-    by-head (read head at) p =
-        whole-numbered (length cells) head (row (cellAt cells) (bodyFault (sizesOf head)) (bodyLength (sizesOf head)) 0 at)
-        (row-numbered (cellAt cells) (cell-numbered cells) (bodyFault (sizesOf head)) (bodyLength (sizesOf head)) 0 at)
+cells-numbered cells =
+    let rest : List ℕ → ℕ → Row = λ head at. partsIn (cellAt cells) (sizesOf head) body at in
+    whole-numbered (length cells) (joined (partIn (cellAt cells) (sizesOf []) Head 0) rest)
+    (joined-numbered (partIn (cellAt cells) (sizesOf []) Head 0) rest (part-numbered (cellAt cells) (cell-numbered cells) (sizesOf []) Head 0)
+    (λ head at. parts-numbered (cellAt cells) (cell-numbered cells) (sizesOf head) body at))
 
 -- ---- an entry
 abbrev StepNumbered : Step → Type 0
@@ -122,7 +137,7 @@ entry-numbered t bytes at = by-length (admitted lengthFault at (numberAt bytes a
 
     by-length : (n : Number) → Numbered n → StepNumbered (afterLength t bytes n)
     by-length (Refused r) p = p
-    by-length (Value len next) p = by-symbols (next .at) len (symbolRow t bytes (next .at) len) (row-numbered (numberAt bytes) (number-numbered bytes) (symbolFault t) len 0 (next .at))
+    by-length (Value len next) p = by-symbols (next .at) len (symbolRow t bytes (next .at) len) (row-numbered (numberAt bytes) (number-numbered bytes) (byIndex (symbolFault t)) len [] (next .at))
 
 -- ---- a list
 abbrev ListNumbered : Listed → Type 0

@@ -13,8 +13,8 @@ use Rattle.number.specs.Number.{numberAt, first, second, third, value, refusal}
 use Rattle.number.specs.declared.Number.{Number}
 use Rattle.number.specs.declared.Number.the-variants.{Value, Refused}
 use Rattle.book.specs.Action.{actionOf}
-use Rattle.book.specs.Book.{bookIn, row, cellAt, ofBytes, ofCells, checked}
-use Rattle.book.specs.Range.{headFault, bodyFault, fits, allowed}
+use Rattle.book.specs.Book.{bookIn, row, partsIn, cellAt, ofBytes, ofCells, checked}
+use Rattle.book.specs.Range.{fault, faultNumber, fits, allowed}
 use Rattle.book.specs.Tables.{Tables, sizesOf, tablesOf}
 use Rattle.book.specs.TablesLaws.{act-range}
 use Rattle.book.specs.declared.Action.{Action}
@@ -321,9 +321,9 @@ abbrev pub Accepted : List ℕ → Sizes → Type 0
 Accepted book d = (checked (ofCells book) ≡ Valid d) × (checked (ofBytes book) ≡ Valid d)
 
 pub bracket-accepted : Accepted bracket (record { t = 4; n = 1; s = 6; p = 2 }) × (length bracket ≡ 39)
-unfolding bracket ofCells ofBytes bookIn row cellAt numberAt first headFault bodyFault fits allowed actionOf sizesOf
+unfolding bracket ofCells ofBytes bookIn row partsIn cellAt numberAt first fault faultNumber fits allowed actionOf sizesOf
 bracket-accepted = ((refl, refl), refl)
 
 pub double-accepted : Accepted double (record { t = 3; n = 2; s = 8; p = 4 }) × (length double ≡ 53)
-unfolding double ofCells ofBytes bookIn row cellAt numberAt first headFault bodyFault fits allowed actionOf sizesOf
+unfolding double ofCells ofBytes bookIn row partsIn cellAt numberAt first fault faultNumber fits allowed actionOf sizesOf
 double-accepted = ((refl, refl), refl)

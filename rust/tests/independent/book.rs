@@ -1,6 +1,6 @@
 //! The table book.
 
-use super::numbers::{encode, refuse, Bytes, Cells, Source};
+use super::numbers::{encoded, refuse, Bytes, Cells, Source};
 use purlquartz::{Refusal, Sizes};
 
 #[derive(Clone, Copy, Debug, PartialEq, Eq)]
@@ -69,11 +69,7 @@ impl Book {
     }
 
     pub fn bytes(&self) -> Vec<u8> {
-        let mut bytes = Vec::new();
-        for cell in self.cells() {
-            encode(cell, &mut bytes);
-        }
-        bytes
+        encoded(&self.cells())
     }
 }
 
@@ -140,7 +136,7 @@ fn decode_actions(source: &mut impl Source, sizes: Sizes) -> Result<Vec<Action>,
             let number = source.next()?;
             match decode_action(number.value, terminal, sizes) {
                 Some(action) => actions.push(action),
-                None => return refuse(5, number.place),
+                None => return refuse(14, number.place),
             }
         }
     }
@@ -167,7 +163,7 @@ fn decode_gotos(source: &mut impl Source, sizes: Sizes) -> Result<Vec<Option<u16
     let count = usize::from(sizes.states) * usize::from(sizes.nonterminals);
     let mut gotos = Vec::new();
     for _ in 0..count {
-        let value = ranged(source, 5, 0, sizes.states)?;
+        let value = ranged(source, 15, 0, sizes.states)?;
         gotos.push(value.checked_sub(1));
     }
     Ok(gotos)

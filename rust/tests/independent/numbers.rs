@@ -101,3 +101,12 @@ pub fn encode(value: u16, bytes: &mut Vec<u8>) {
     }
     bytes.push(rest as u8);
 }
+
+/// The bytes of a row of numbers.
+pub fn encoded(values: &[u16]) -> Vec<u8> {
+    let mut bytes = Vec::new();
+    for &value in values {
+        encode(value, &mut bytes);
+    }
+    bytes
+}

@@ -32,18 +32,23 @@ fn pad(bytes: &mut Vec<u8>, at: usize, more: usize) {
     }
 }
 
-/// The cells with one of them changed, some lost or some added.
+/// The cells with one or two of them changed, some lost or some added.
 pub fn damaged_cells(random: &mut Random, cells: &[u16]) -> Vec<u16> {
     let mut cells = cells.to_vec();
     let at = random.below(cells.len());
     let head = random.below(5).min(at);
     let near = cells[at].wrapping_add(random.pick(&[1, 2, 4, 65_535, 65_534]));
     let value = random.pick(&[0, 1, 2, 3, 33, 65_535, near, near]);
-    match random.below(6) {
+    match random.below(8) {
         0 => cells.truncate(at),
         1 => cells.push(value),
         2 => cells[head] = value,
         3 => cells.insert(at, value),
+        4 | 5 => {
+            let other = random.below(cells.len());
+            cells[other] = random.pick(&[33, 258, 259, 65_535]);
+            cells[at] = value;
+        }
         _ => cells[at] = value,
     }
     cells

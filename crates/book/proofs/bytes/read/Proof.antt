@@ -4,14 +4,14 @@ use mathlib.Core.Path.{sym, _∙_}
 use native.Mathlib.Omega.{arith}
 use Rattle.book.specs.BookLaws.{readable, deliver-stop, deliver-short, deliver-whole, checked-faulty}
 use Rattle.book.specs.Book.{ofBytes, reading}
-use Rattle.book.specs.RangeLaws.{actions-few, gotos-few}
+use Rattle.book.specs.RangeLaws.{actions-few, gotos-few, few}
 use borrow.Author.Needs.{needs}
 use Rattle.book.proofs.bytes.read.Statement.{statement}
 use Rattle.book.proofs.bytes.read.Tie as tie
 
 body-length-requires : tie.Need-body-length-requires
 unfolding ofBytes
-body-length-requires c κs = (readable _ _ _ (sym (c .before .before .before .check-bytes .ensures) ∙ c .before .d .given .1)) .small
+body-length-requires c κs = few ((readable _ _ _ (sym (c .before .before .before .check-bytes .ensures) ∙ c .before .d .given .1)) .small)
 
 add-n : tie.Need-add-n
 unfolding ofBytes

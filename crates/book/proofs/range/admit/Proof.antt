@@ -1,13 +1,19 @@
 -- `book::range::admit` meets its contract. Assumes nothing.
-use borrow.Author.Tests.{eq-eqb, ne-eqb}
+use mathlib.Core.Path.{sym, _∙_}
+use Rattle.book.specs.Range.{fault}
+use Rattle.book.specs.PartsLaws.{admitted-faulty}
+use borrow.Author.Needs.{needs}
 use Rattle.book.proofs.range.admit.Statement.{statement}
 use Rattle.book.proofs.range.admit.Tie as tie
 
-returns : tie.Need-returns
-returns c = rw (eq-eqb _ _ (c .if1 .taken))
-
 returns-2 : tie.Need-returns-2
-returns-2 c = rw (ne-eqb _ _ (c .if1 .left))
+unfolding fault
+returns-2 c = rw (c .before .before .before .found .given .1, ← c .before .in-range .ensures, c .if1 .taken)
+
+returns-3 : tie.Need-returns-3
+returns-3 c =
+    rw (c .before .before .before .before .found .given .1, c .fault-number .ensures) (sym (admitted-faulty _ _ _ _ _ _ (sym (c .before .before .in-range .ensures) ∙ c .before .if1 .left)))
 
 pub admit-spec : {M : Type 1} → statement M
-admit-spec = tie.close (tie.spec returns returns-2)
+admit-spec =
+    tie.close (tie.spec (λ c. search needs) (λ c. search needs) (λ c. search needs) (λ c κs. search needs) returns-2 (λ c κs. search needs) returns-3)

@@ -1,21 +1,20 @@
 -- `book::range::body_length` meets its contract. Assumes nothing.
 use native.Mathlib.Omega.{arith}
-use Rattle.book.specs.RangeLaws.{actions-few, gotos-few}
 use borrow.Author.Needs.{needs}
 use Rattle.book.proofs.range.body_length.Statement.{statement}
 use Rattle.book.proofs.range.body_length.Tie as tie
 
 mul-result-2 : tie.Need-mul-result-2
-mul-result-2 c = omega (arith, actions-few _ (c .before .before .pre))
+mul-result-2 c = omega (arith, c .before .before .pre .actions)
 
 add-result : tie.Need-add-result
-add-result c = omega (arith, actions-few _ (c .before .before .pre))
+add-result c = omega (arith, c .before .before .pre .actions)
 
 mul-result-3 : tie.Need-mul-result-3
-mul-result-3 c = omega (arith, gotos-few _ (c .before .before .before .pre))
+mul-result-3 c = omega (arith, c .before .before .before .pre .gotos)
 
 add-result-2 : tie.Need-add-result-2
-add-result-2 c = omega (arith, actions-few _ (c .before .before .before .pre), gotos-few _ (c .before .before .before .pre))
+add-result-2 c = omega (arith, c .before .before .before .pre .actions, c .before .before .before .pre .gotos)
 
 pub body-length-spec : {M : Type 1} → statement M
 body-length-spec =

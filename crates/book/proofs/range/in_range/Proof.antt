@@ -1,34 +1,68 @@
--- `book::range::in_range` meets its contract: each test picks a case of `fits`. Assumes nothing.
-use borrow.Author.Tests.{lt-ltb, le-ltb, eq-eqb, ne-eqb}
+-- `book::range::in_range` meets its contract: each part is a case of `fits`. Assumes nothing.
+use borrow.Author.Tests.{le-leb, lt-leb, eq-eqb, ne-eqb}
 use native.Mathlib.Omega.{arith}
 use Rattle.book.specs.Range.{fits}
-use Rattle.book.specs.RangeLaws.{actions-few}
+use Rattle.book.specs.RangeLaws.{factor-some}
 use borrow.Author.Needs.{needs}
 use Rattle.book.proofs.range.in_range.Statement.{statement}
 use Rattle.book.proofs.range.in_range.Tie as tie
 
+mul-if1 : tie.Need-mul-if1
+mul-if1 c = omega (arith, rw (c .enum-told .given .1) at (c .before .before .pre))
+
+array-read-if1 : tie.Need-array-read-if1
+array-read-if1 c = omega (arith, rw (c .enum-told .given .1) at (c .before .before .pre))
+
+mul-result : tie.Need-mul-result
+mul-result c = omega (arith, rw (c .before .enum-told .given .1) at (c .before .before .before .pre))
+
+array-read-result : tie.Need-array-read-result
+array-read-result c = omega (arith, rw (c .before .enum-told .given .1) at (c .before .before .before .pre))
+
 returns : tie.Need-returns
 unfolding fits
-returns c = rw (lt-ltb _ _ (c .before .before .if1 .taken), eq-eqb _ _ (c .before .if2 .taken))
+returns c = rw (c .before .before .enum-told2 .given .1, eq-eqb _ _ (c .before .if2 .taken))
+
+rem-action-allowed : tie.Need-rem-action-allowed
+rem-action-allowed c = factor-some _ (c .before .before .before .args .d .s) _ (rw (c .before .enum-told3 .given .1) at (c .before .before .before .pre))
 
 returns-2 : tie.Need-returns-2
 unfolding fits
-returns-2 c = rw (lt-ltb _ _ (c .before .if1 .taken), ne-eqb _ _ (c .if2 .left))
-
-mul-if3 : tie.Need-mul-if3
-mul-if3 c = omega (arith, actions-few _ (c .before .before .before .pre))
-
-add-if3 : tie.Need-add-if3
-add-if3 c = omega (arith, actions-few _ (c .before .before .before .pre))
+returns-2 c = rw (c .before .enum-told .given .1, le-leb _ _ (c .if1 .taken))
 
 returns-3 : tie.Need-returns-3
 unfolding fits
-returns-3 c = rw (le-ltb _ _ (c .before .before .before .if1 .left), lt-ltb _ _ (c .before .if3 .taken)) (c .action-allowed .ensures)
+returns-3 c = rw (c .before .enum-told .given .1, lt-leb _ _ (c .if1 .left))
 
 returns-4 : tie.Need-returns-4
 unfolding fits
-returns-4 c = rw (le-ltb _ _ (c .before .before .before .if1 .left), le-ltb _ _ (c .before .if3 .left))
+returns-4 c = rw (c .before .enum-told2 .given .1, ne-eqb _ _ (c .if2 .left))
+
+returns-5 : tie.Need-returns-5
+unfolding fits
+returns-5 c = rw (c .before .before .enum-told3 .given .1) (c .action-allowed .ensures)
+
+returns-6 : tie.Need-returns-6
+unfolding fits
+returns-6 c = rw (c .before .enum-told4 .given .1)
 
 pub in-range-spec : {M : Type 1} → statement M
 in-range-spec =
-    tie.close (tie.spec (λ c. search needs) returns returns-2 mul-if3 add-if3 (λ c. search needs) (λ c κs. search needs) returns-3 returns-4)
+    tie.close
+    (tie.spec
+    (λ c. search needs)
+    mul-if1
+    array-read-if1
+    mul-result
+    array-read-result
+    (λ c. search needs)
+    returns
+    (λ c. search needs)
+    rem-action-allowed
+    (λ c κs. search needs)
+    (λ c. search needs)
+    returns-2
+    returns-3
+    returns-4
+    returns-5
+    returns-6)

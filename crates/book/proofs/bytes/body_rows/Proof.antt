@@ -1,0 +1,12 @@
+-- `book::bytes::body_rows` meets its contract: the three parts, one after the other. Assumes nothing.
+use Rattle.number.specs.Number.{numberAt}
+use Rattle.book.specs.PartsLaws.{after-body}
+use borrow.Author.Needs.{needs}
+use Rattle.book.proofs.bytes.body_rows.Statement.{statement}
+use Rattle.book.proofs.bytes.body_rows.Tie as tie
+
+returns : tie.Need-returns
+returns c = after-body (numberAt (c .before .before .before .before .args .bytes .now)) (c .before .before .before .before .args .d) (c .before .before .before .before .args .head) (c .before .before .part-row .ensures) (c .before .part-row2 .ensures) (c .part-row3 .ensures)
+
+pub body-rows-spec : {M : Type 1} → statement M
+body-rows-spec = tie.close (tie.spec (λ c κs. search needs) (λ c. search needs) (λ c. search needs) returns)
