@@ -25,15 +25,20 @@ abbrev pub admitted : (ℕ → ℕ) → ℕ → Number → Number
 admitted fault at (Number.Refused r) = Number.Refused r
 admitted fault at (Number.Value v next) = cond (eqb (fault v) 0) (Number.Value v next) (refusal (fault v) at)
 
--- a number, and the row that goes on after it
-abbrev pub followed : Number → (ℕ → ℕ → Row) → Row
-followed (Number.Refused r) rest = refused r
-followed (Number.Value v next) rest = before (v ∷ []) (rest v (next .at))
+-- one number as a row
+abbrev pub single : Number → Row
+single (Number.Refused r) = refused r
+single (Number.Value v next) = read (v ∷ []) (next .at)
+
+-- a row, and the one that goes on where it ends
+abbrev pub joined : Row → (List ℕ → ℕ → Row) → Row
+joined (refused r) rest = refused r
+joined (read vs at) rest = before vs (rest vs at)
 
 -- k numbers from a place of the source on, each with its fault after those of its part already seen
 unfoldable pub row : (ℕ → Number) → (List ℕ → ℕ → ℕ) → ℕ → List ℕ → ℕ → Row
 row source fault zero seen at = read [] at
-row source fault (suc k) seen at = followed (admitted (fault seen) at (source at)) (λ v next. row source fault k (seen ++ (v ∷ [])) next)
+row source fault (suc k) seen at = joined (single (admitted (fault seen) at (source at))) (λ vs next. row source fault k (seen ++ vs) next)
 
 -- the faults that look at no more than how many were seen
 abbrev pub byIndex : (ℕ → ℕ → ℕ) → List ℕ → ℕ → ℕ
@@ -42,11 +47,6 @@ byIndex fault seen = fault (length seen)
 -- the numbers of a part
 abbrev pub partIn : (ℕ → Number) → Sizes → Part → ℕ → Row
 partIn source d part at = row source (byIndex (fault d part)) (partLength d part) [] at
-
--- a row, and the one that goes on where it ends
-abbrev pub joined : Row → (List ℕ → ℕ → Row) → Row
-joined (refused r) rest = refused r
-joined (read vs at) rest = before vs (rest vs at)
 
 -- parts one after the other
 unfoldable pub partsIn : (ℕ → Number) → Sizes → List Part → ℕ → Row

@@ -54,16 +54,16 @@ module _ (source : ℕ → Number) (head : List ℕ) (at : ℕ) (e : headIn sour
   head-length : length head ≡ 5
   head-length = part-length source (sizesOf []) Part.Head 0 head at e
 
-  head-fits : (i : ℕ) → i < 5 → (getD headLowest i 0 ≤ getD head i 0) × (getD head i 0 ≤ getD headHighest i 0)
-  head-fits i l = head-range (sizesOf []) i (getD head i 0) (part-clean source (sizesOf []) Part.Head 0 head at e i l)
+  head-bounds : (i : ℕ) → i < 5 → (getD headLowest i 0 ≤ getD head i 0) × (getD head i 0 ≤ getD headHighest i 0)
+  head-bounds i l = head-range (sizesOf []) i (getD head i 0) (part-clean source (sizesOf []) Part.Head 0 head at e i l)
 
   head-small : Small (sizesOf head)
   unfolding sizesOf
   head-small =
-      let t = head-fits 1 (omega arith) in
-      let n = head-fits 2 (omega arith) in
-      let s = head-fits 3 (omega arith) in
-      let p = head-fits 4 (omega arith) in
+      let t = head-bounds 1 (omega arith) in
+      let n = head-bounds 2 (omega arith) in
+      let s = head-bounds 3 (omega arith) in
+      let p = head-bounds 4 (omega arith) in
       record { some-terminal = t .0; terminals = t .1; nonterminals = n .1; some-state = s .0; states = s .1; productions = p .1 }
 
   -- it is the first five numbers of the source
@@ -99,39 +99,36 @@ pub ends-refused : (w : Row) (r : Refusal) → ends w ≡ Refused r → w ≡ re
 ends-refused (read vs at) r e = absurd (refused-not-value r 0 at (sym e))
 ends-refused (refused q) r e = cc
 
--- the head of a source that has one: so much a loop over it and over its first five numbers knows
+-- the head of a source that has one
 pub record Headed (source : ℕ → Number) (at : ℕ) (head : List ℕ) : Type 0 where
   pub is : headIn source ≡ read head at
   pub five : length head ≡ 5
   pub small : Small (sizesOf head)
 
+headed-read : {source : ℕ → Number} {at : ℕ} {head : List ℕ} → headIn source ≡ read head at → Headed source at head
+headed-read {source} {at} {head} e = record { is = e; five = head-length source head at e; small = head-small source head at e }
+
+-- it is the first five numbers, which stand alone where they were written over five cells
 pub headed : (source : ℕ → Number) (v : ℕ) (next : Cursor) → ends (headIn source) ≡ Value v next → Headed source (next .at) (values source 5 0)
 headed source v next e =
     let (vs, r) = ends-read (headIn source) v next e in
-    rw (head-values source vs (next .at) r)
-    (record { is = r; five = head-length source vs (next .at) r; small = head-small source vs (next .at) r })
+    rw (head-values source vs (next .at) r) (headed-read r)
 
--- so it stands alone where it was written over five cells
 pub headed-over : {source : ℕ → Number} {at : ℕ} {head : List ℕ} → Headed source at head → over head (replicate 5 0) ≡ head
 headed-over h = rw (h .five, append-nil)
 
 -- in cells it is the first five of them
-pub record Head (cells : List ℕ) (at : ℕ) : Type 0 where
-  pub first : headIn (cellAt cells) ≡ read (take 5 cells) at
-  pub long : 5 ≤ length cells
-  pub small : Small (sizesOf cells)
-
-pub cells-head : (cells : List ℕ) (v : ℕ) (next : Cursor) → ends (headIn (cellAt cells)) ≡ Value v next → Head cells (next .at)
+pub cells-head : (cells : List ℕ) (v : ℕ) (next : Cursor) → ends (headIn (cellAt cells)) ≡ Value v next
+    → (5 ≤ length cells) × Headed (cellAt cells) (next .at) (take 5 cells)
 cells-head cells v next e =
     let (vs, r) = ends-read (headIn (cellAt cells)) v next e in
     let p = cells-part cells (sizesOf []) Part.Head 0 vs (next .at) r (omega arith) in
-    let first : headIn (cellAt cells) ≡ read (take 5 cells) (next .at) = r ∙ ap (λ (l : List ℕ). read l (next .at)) (p .part) in
-    record { first = first; long = omega (arith, p .within); small = rw sizes-take at (head-small (cellAt cells) (take 5 cells) (next .at) first) }
+    (omega (arith, p .within), headed-read (r ∙ ap (λ (l : List ℕ). read l (next .at)) (p .part)))
 
-pub checked-cells : (cells : List ℕ) (at : ℕ) → Head cells at
+pub checked-cells : (cells : List ℕ) (at : ℕ) → Headed (cellAt cells) at (take 5 cells)
     → closing (sizesOf cells) (length cells) (ends (partsIn (cellAt cells) (sizesOf cells) body at)) ≡ checked (ofCells cells)
 unfolding ofCells
-checked-cells cells at h = rw sizes-take at (checked-on (cellAt cells) (length cells) (take 5 cells) at (h .first))
+checked-cells cells at h = rw sizes-take at (checked-on (cellAt cells) (length cells) (take 5 cells) at (h .is))
 
 -- ---- a book that was read
 pub checked-valid : (w : Row) (d : Sizes) → checked w ≡ Valid d → (cells : List ℕ) × (next : ℕ) × (w ≡ read cells next) × (d ≡ sizesOf cells)

@@ -8,19 +8,26 @@ use native.Mathlib.Omega.{arith}
 use borrow.Author.Tests.{ne-eqb}
 use lib.ListN.{length, getD, take, length-append}
 use lib.Seq.{length-take-le}
-use Rattle.number.specs.Number.{refusal}
+use Rattle.number.specs.Number.{numberAt, refusal}
 use Rattle.number.specs.declared.Cursor.{Cursor}
 use Rattle.number.specs.declared.Number.{Number}
 use Rattle.number.specs.declared.Number.the-variants.{Value, Refused}
-use Rattle.book.specs.Book.{Row, read, refused, before, byIndex, admitted, partIn, partsIn, joined, body}
+use Rattle.book.specs.Book.{cellAt, Row, read, refused, before, byIndex, admitted, partIn, partsIn, joined, body}
 use Rattle.book.specs.Range.{partLength, fits, faultNumber, fault}
 use Rattle.book.specs.RowLaws.{ends, after, ends-joined, refused-not-read, row-length, row-clean, values, values-row}
 use Rattle.book.specs.RangeLaws.{fault-fits, some-number}
 use Rattle.book.specs.declared.Part.{Part}
 use Rattle.book.specs.declared.Part.the-variants.{Productions, Actions, Gotos}
 use Rattle.book.specs.declared.Sizes.{Sizes}
+use Rattle.book.specs.declared.Source.{Source}
+use Rattle.book.specs.declared.Source.the-variants.{Bytes, Cells}
 
--- how many numbers they have
+-- the numbers of one of two slices
+abbrev pub numbers : Source → List ℕ → List ℕ → ℕ → Number
+numbers Bytes bytes cells = numberAt bytes
+numbers Cells bytes cells = cellAt cells
+
+-- how many numbers parts have
 abbrev pub total : Sizes → List Part → ℕ
 total d [] = 0
 total d (part ∷ more) = partLength d part + total d more

@@ -3,6 +3,7 @@ mod actions;
 mod bytes;
 mod call;
 mod cells;
+mod parts;
 mod range;
 mod tables;
 
@@ -38,6 +39,12 @@ pub enum Part {
     Productions,
     Actions,
     Gotos,
+}
+
+// Which of two slices holds the numbers of a book.
+pub enum Source {
+    Bytes,
+    Cells,
 }
 
 pub enum Checked {

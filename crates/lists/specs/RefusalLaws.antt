@@ -12,7 +12,8 @@ use Rattle.number.specs.Number.{numberAt, refusal, value, first, second, third}
 use Rattle.number.specs.declared.Number.{Number}
 use Rattle.number.specs.declared.Number.the-variants.{Value, Refused}
 use Rattle.number.specs.declared.Refusal.{Refusal}
-use Rattle.book.specs.Book.{Row, read, refused as unread, before, admitted, followed, row, byIndex, joined, partIn, partsIn, body, whole, bookIn, ofCells, cellAt}
+use Rattle.book.specs.Book.{Row, read, refused as unread, before, admitted, single, joined, row, byIndex, partIn, partsIn, body, whole, bookIn, ofCells, cellAt}
+use Rattle.book.specs.BookLaws.{headIn}
 use Rattle.book.specs.Range.{fault, partLength}
 use Rattle.book.specs.Tables.{sizesOf}
 use Rattle.book.specs.declared.Part.{Part}
@@ -77,6 +78,10 @@ before-numbered : (vs : List ℕ) (w : Row) → RowNumbered w → RowNumbered (b
 before-numbered vs (read ws at) p = tt
 before-numbered vs (unread r) p = p
 
+single-numbered : (n : Number) → Numbered n → RowNumbered (single n)
+single-numbered (Value v next) p = tt
+single-numbered (Refused r) p = p
+
 joined-numbered : (w : Row) (rest : List ℕ → ℕ → Row) → RowNumbered w → ((vs : List ℕ) (at : ℕ) → RowNumbered (rest vs at)) → RowNumbered (joined w rest)
 joined-numbered (unread r) rest p q = p
 joined-numbered (read vs at) rest p q = before-numbered vs (rest vs at) (q vs at)
@@ -86,11 +91,9 @@ module _ (source : ℕ → Number) (known : (at : ℕ) → Numbered (source at))
   unfolding row
   row-numbered fault zero seen at = tt
   row-numbered fault (suc k) seen at =
-      by-number (admitted (fault seen) at (source at)) (admitted-numbered (fault seen) at (source at) (known at)) (λ v next. row source fault k (seen ++ (v ∷ [])) next) (λ v next. row-numbered fault k (seen ++ (v ∷ [])) next)
-    where
-      by-number : (n : Number) → Numbered n → (rest : ℕ → ℕ → Row) → ((v next : ℕ) → RowNumbered (rest v next)) → RowNumbered (followed n rest)
-      by-number (Refused r) p rest q = p
-      by-number (Value v next) p rest q = before-numbered (v ∷ []) (rest v (next .at)) (q v (next .at))
+      let n = admitted (fault seen) at (source at) in
+      joined-numbered (single n) (λ vs next. row source fault k (seen ++ vs) next) (single-numbered n (admitted-numbered (fault seen) at (source at) (known at)))
+      (λ vs next. row-numbered fault k (seen ++ vs) next)
 
   part-numbered : (d : Sizes) (part : Part) (at : ℕ) → RowNumbered (partIn source d part at)
   part-numbered d part at = row-numbered (byIndex (fault d part)) (partLength d part) [] at
@@ -114,8 +117,8 @@ cells-numbered : (cells : List ℕ) → RowNumbered (ofCells cells)
 unfolding ofCells bookIn
 cells-numbered cells =
     let rest : List ℕ → ℕ → Row = λ head at. partsIn (cellAt cells) (sizesOf head) body at in
-    whole-numbered (length cells) (joined (partIn (cellAt cells) (sizesOf []) Head 0) rest)
-    (joined-numbered (partIn (cellAt cells) (sizesOf []) Head 0) rest (part-numbered (cellAt cells) (cell-numbered cells) (sizesOf []) Head 0)
+    whole-numbered (length cells) (joined (headIn (cellAt cells)) rest)
+    (joined-numbered (headIn (cellAt cells)) rest (part-numbered (cellAt cells) (cell-numbered cells) (sizesOf []) Head 0)
     (λ head at. parts-numbered (cellAt cells) (cell-numbered cells) (sizesOf head) body at))
 
 -- ---- an entry

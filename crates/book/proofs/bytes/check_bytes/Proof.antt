@@ -9,8 +9,8 @@ use Rattle.book.proofs.bytes.check_bytes.Tie as tie
 
 body-rows-requires : tie.Need-body-rows-requires
 body-rows-requires c κs =
-    let h = headed _ _ _ (sym (c .before .before .before .before .before .before .before .head-row .ensures) ∙ c .before .before .before .before .before .enum-told .given .1) in
-    few (rw (c .sizes .ensures, c .before .before .before .decode-row .ensures, headed-over h) (h .small))
+    let h = headed _ _ _ (sym (c .before .before .before .before .before .before .before .before .head-row .ensures) ∙ c .before .before .before .before .before .before .enum-told .given .1) in
+    few (rw (c .before .sizes .ensures, c .before .before .before .before .decode-row .ensures, headed-over h) (h .small))
 
 returns : tie.Need-returns
 unfolding ofBytes
@@ -19,21 +19,23 @@ returns c = checked-stop _ _ _ (ends-refused _ _ (sym (c .before .before .before
 returns-2 : tie.Need-returns-2
 unfolding ofBytes
 returns-2 c =
-    let h = headed _ _ _ (sym (c .before .before .before .before .before .before .before .before .before .head-row .ensures) ∙ c .before .before .before .before .before .before .before .enum-told .given .1) in
+    let h = headed _ _ _ (sym (c .before .before .before .before .before .before .before .before .before .before .head-row .ensures) ∙ c .before .before .before .before .before .before .before .before .enum-told .given .1) in
     c .close .ensures
-    ∙ rw (c .before .body-rows .ensures, c .before .before .before .before .before .before .before .enum-told .given .1, c .before .before .sizes .ensures, c .before .before .before .before .before .decode-row .ensures, headed-over h) (checked-on _ _ _ _ (h .is))
+    ∙ rw (c .before .body-rows .ensures, c .before .before .before .before .before .before .before .before .enum-told .given .1, c .before .before .before .sizes .ensures, c .before .before .before .before .before .before .decode-row .ensures, headed-over h) (checked-on _ _ _ _ (h .is))
 
 pub check-bytes-spec : {M : Type 1} → statement M
 check-bytes-spec =
     tie.close
     (tie.spec
-    (λ c κs. search needs)
-    (λ c. search needs)
-    (λ c. search needs)
     (λ c. search needs)
     (λ c κs. search needs)
     (λ c. search needs)
+    (λ c. search needs)
+    (λ c. search needs)
     (λ c κs. search needs)
+    (λ c. search needs)
+    (λ c κs. search needs)
+    (λ c. search needs)
     body-rows-requires
     (λ c κs. search needs)
     returns

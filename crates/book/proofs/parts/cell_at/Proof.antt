@@ -1,9 +1,9 @@
--- `book::cells::cell_at` meets its contract. Assumes nothing.
+-- `book::parts::cell_at` meets its contract. Assumes nothing.
 use borrow.Author.Tests.{lt-ltb, le-ltb}
 use Rattle.book.specs.Book.{cellAt}
 use borrow.Author.Needs.{needs}
-use Rattle.book.proofs.cells.cell_at.Statement.{statement}
-use Rattle.book.proofs.cells.cell_at.Tie as tie
+use Rattle.book.proofs.parts.cell_at.Statement.{statement}
+use Rattle.book.proofs.parts.cell_at.Tie as tie
 
 returns : tie.Need-returns
 unfolding cellAt

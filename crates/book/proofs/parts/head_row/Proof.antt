@@ -1,8 +1,8 @@
--- `book::bytes::head_row` meets its contract. Assumes nothing.
+-- `book::parts::head_row` meets its contract. Assumes nothing.
 use Rattle.book.specs.RangeLaws.{few-none}
 use Rattle.book.specs.Tables.{sizesOf}
-use Rattle.book.proofs.bytes.head_row.Statement.{statement}
-use Rattle.book.proofs.bytes.head_row.Tie as tie
+use Rattle.book.proofs.parts.head_row.Statement.{statement}
+use Rattle.book.proofs.parts.head_row.Tie as tie
 
 part-row-requires : tie.Need-part-row-requires
 part-row-requires c κs = few-none

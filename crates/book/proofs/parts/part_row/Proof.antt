@@ -1,19 +1,19 @@
--- `book::bytes::part_row` meets its contract: the row is followed number by number. Assumes nothing.
+-- `book::parts::part_row` meets its contract: the row is followed number by number. Assumes nothing.
 use mathlib.Core.Path.{sym, _∙_}
 use native.Mathlib.Omega.{arith}
 use Prim.Native.Nat.{_-_, _≤_}
-use Rattle.number.specs.Number.{numberAt}
+use Rattle.book.specs.PartsLaws.{numbers}
 use Rattle.book.specs.Range.{fault}
 use Rattle.book.specs.RowLaws.{Turns, turns-none, turns-more, turns-stop, turns-done}
 use borrow.Author.Needs.{needs}
-use Rattle.book.proofs.bytes.part_row.Statement.{statement}
-use Rattle.book.proofs.bytes.part_row.Tie as tie
+use Rattle.book.proofs.parts.part_row.Statement.{statement}
+use Rattle.book.proofs.parts.part_row.Tie as tie
 
 abbrev Inv-loop : tie.InvT-loop
-Inv-loop bytes d part n start i₀ at i = (i ≤ n) × Turns (numberAt bytes) (fault d part) n start i at
+Inv-loop source bytes cells d part n start i₀ at i = (i ≤ n) × Turns (numbers source bytes cells) (fault d part) n start i at
 
 abbrev μ-loop : tie.MeasureT-loop
-μ-loop bytes d part n start i₀ at i = n - i
+μ-loop source bytes cells d part n start i₀ at i = n - i
 
 returns : tie.Need-returns Inv-loop μ-loop
 returns c = rw (c .enum-told .given .1)
@@ -27,12 +27,12 @@ admit-requires c κs = rw (← c .before .before .before .part-length .ensures) 
 returns-2 : tie.Need-returns-2 Inv-loop μ-loop
 returns-2 c =
     let e = c .enum-told2 .given .1 in
-    let found = sym (rw (c .before .before .before .read .ensures) at (c .before .before .admit .ensures)) ∙ e in
+    let found = sym (rw (c .before .before .before .number-at .ensures) at (c .before .before .admit .ensures)) ∙ e in
     rw (c .before .before .before .before .before .before .before .before .last .given .1, ← c .before .before .before .before .before .before .part-length .ensures) (e ∙ turns-stop (c .before .before .before .before .before .loop .inv .1) (c .before .before .before .before .loop-test .taken) found)
 
 loop-again : tie.Need-loop-again Inv-loop μ-loop
 loop-again c =
-    let found = sym (rw (c .before .before .before .before .read .ensures) at (c .before .before .before .admit .ensures)) ∙ c .before .found .given .1 in
+    let found = sym (rw (c .before .before .before .before .number-at .ensures) at (c .before .before .before .admit .ensures)) ∙ c .before .found .given .1 in
     (omega arith, turns-more (c .before .before .before .before .before .before .loop .inv .1) (c .before .before .before .before .before .loop-test .taken) found)
 
 returns-3 : tie.Need-returns-3 Inv-loop μ-loop
