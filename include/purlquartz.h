@@ -2,37 +2,40 @@
  * Purlquartz: machine-checked tools for the tables of LR(1) parsers.
  *
  * A book holds a parser's tables: T terminals (1 to 32), N nonterminals (0 to 32), S states (1 to
- * 128) and P productions (0 to 128). In memory it is a row of 16-bit cells, at most 8,453:
+ * 128) and P productions (0 to 128). In memory it is a row of 16-bit cells, at most 8,485:
  *
- *   the form, always 1; T; N; S; P
+ *   the form, 1 or 2; T; N; S; P
  *   for each production its left side and its length, 0 to 32
+ *   in form 2 for each terminal its rank, the numbers 0 to T - 1 in any order
  *   for each state, for each terminal an action: 0 error, 1 accept, 2 + 2 s shift to state s,
  *     3 + 2 p reduce production p
  *   for each state, for each nonterminal a goto: 0 none, else the state + 1
  *
  * In bytes each number takes one to three, the fewest possible: groups of seven bits, lowest
- * first, the top bit set on all but the last. The longest book has 16,647 bytes. Terminal 0 is
- * the end mark: no state shifts it, and accept stands only under it. The start is state 0.
+ * first, the top bit set on all but the last. The longest book has 16,679 bytes. Terminal 0 is
+ * the end mark: no state shifts it, and accept stands only under it; it has a rank too. In form 1
+ * a terminal's rank is its number. The start is state 0. Every call that takes a book takes both
+ * forms.
  *
  * Slices. A slice is a pointer and a count of elements. The pointer must not be null, even when
  * the count is 0, and must be good for the count. Slices that are written to (not const) must
  * overlap no other. Nothing is allocated, and no pointer is kept after a call.
  *
- * Call stack. purlquartz_find uses less than 400,000 bytes of it; purlquartz_map, purlquartz_sets
- * and purlquartz_judge less than 40,000; every other call less than 1,000. These are rounded up
- * from what was measured.
+ * Call stack. purlquartz_find uses less than 420,000 bytes of it; purlquartz_map, purlquartz_sets
+ * and purlquartz_judge less than 60,000; purlquartz_run less than 25,000; every other call less
+ * than 1,000. These are rounded up from what was measured.
  *
  * Answers. Every call fills answer[0] to answer[7]: answer[0] is the kind, the others its values,
  * unused ones 0. The answer must not be null, and must overlap no slice. Kind 0 is a refusal,
  * answer[1] its number and answer[2] its place; then no lent memory but the answer has changed.
  * All inputs are checked before anything else happens, in the order: the book's cells or bytes;
- * the list or sentence; then 10, 11, 13, 12.
+ * the list or sentence; then 17, 10, 11, 13, 12.
  *
  *   number  cause                                              place
  *   1   a book or list stops before a due number is complete   where the missing number begins
  *   2   a number is padded, too wide, or over 65,535           its first byte
  *       (in bytes only)
- *   3   the form is not 1                                      the number's offset or index
+ *   3   the form is neither 1 nor 2                            the number's offset or index
  *   4   T, N, S or P outside its range                         the number's offset or index
  *   5   a production's left side or length outside its range   the number's offset or index
  *   6   something follows the last number                      where it begins
@@ -46,6 +49,9 @@
  *   14  an action outside its range, a shift under terminal    the number's offset or index
  *       0, or accept under another terminal
  *   15  a goto outside its range                               the number's offset or index
+ *   16  a rank is T or more, or was used before                the number's offset or index
+ *   17  a rank is not its terminal's number                    the cell's index
+ *       (purlquartz_to_form_1 only)
  *
  * Offsets count bytes, indices count cells or symbols, all from 0.
  */
@@ -59,8 +65,8 @@
 extern "C" {
 #endif
 
-#define PURLQUARTZ_MOST_CELLS 8453u
-#define PURLQUARTZ_MOST_BYTES 16647u
+#define PURLQUARTZ_MOST_CELLS 8485u
+#define PURLQUARTZ_MOST_BYTES 16679u
 #define PURLQUARTZ_SENTENCE_BYTES 1000u
 #define PURLQUARTZ_STACK_CELLS 1024u
 /* Map cells that are no length. */
@@ -100,7 +106,7 @@ extern "C" {
 /*
  * Reads a book from bytes into the first lent cells; the cells after them keep their values.
  * Kind 1: answer[1] is how many cells were written.
- * Refusals: 1 to 6, 14 and 15 as the book is read; 12 if it has more cells than are lent.
+ * Refusals: 1 to 6 and 14 to 16 as the book is read; 12 if it has more cells than are lent.
  */
 void purlquartz_read(const uint8_t *bytes, size_t byte_count,
                      uint16_t *cells, size_t cell_count,
@@ -108,11 +114,34 @@ void purlquartz_read(const uint8_t *bytes, size_t byte_count,
 
 /*
  * Checks the cells of a book.
- * Kind 1: answer[1] to answer[4] are T, N, S and P.
- * Refusals: 1, 3, 4, 5, 14, 15, 6. Every call that takes cells gives these first.
+ * Kind 1: answer[1] to answer[4] are T, N, S and P, answer[5] is the form.
+ * Refusals: 1, 3, 4, 5, 16, 14, 15, 6. Every call that takes cells gives these first.
  */
 void purlquartz_check(const uint16_t *cells, size_t cell_count,
                       uint64_t answer[8]);
+
+/*
+ * Writes the book that the cells hold to the first lent cells in form 1; the cells after them keep
+ * their values. The ranks of form 2 are left out, which must be the terminals' numbers; a book of
+ * form 1 is written as it is.
+ * Kind 1: answer[1] is how many cells were written.
+ * Refusals: those of purlquartz_check; 17 at the first rank that is not its terminal's number; 12
+ * if the result has more cells than are lent.
+ */
+void purlquartz_to_form_1(const uint16_t *cells, size_t cell_count,
+                          uint16_t *lent, size_t lent_count,
+                          uint64_t answer[8]);
+
+/*
+ * Writes the book that the cells hold to the first lent cells in form 2; the cells after them keep
+ * their values. To a book of form 1 the ranks 0 to T - 1 are added, in this order; a book of form 2
+ * is written as it is, whatever its ranks.
+ * Kind 1: answer[1] is how many cells were written.
+ * Refusals: those of purlquartz_check; 12 if the result has more cells than are lent.
+ */
+void purlquartz_to_form_2(const uint16_t *cells, size_t cell_count,
+                          uint16_t *lent, size_t lent_count,
+                          uint64_t answer[8]);
 
 /*
  * Writes the book that the cells hold to the first lent bytes; the bytes after them keep their
@@ -142,9 +171,9 @@ void purlquartz_run(const uint16_t *cells, size_t cell_count,
 
 /*
  * Finds the shortest sentence that brings the machine to the state with the lookahead, and of
- * several the earliest in order: the smaller terminal number at the first difference. It stands at
- * the front of the buffer; the bytes after it, or all where there is none, keep their values. The
- * first T * T * S * (N + 8) work cells are zero afterwards.
+ * several the earliest in order: the lower rank at the first difference. It stands at the front of
+ * the buffer; the bytes after it, or all where there is none, keep their values. The first
+ * T * T * S * (N + 8) work cells are zero afterwards.
  * Kinds: 1 unreached, no sequence reaches the pair, however long; 2 long, some sequence does, but
  * none of at most 1,000 symbols; 3 sentence, answer[1] is its length.
  * Refusals: those of purlquartz_check; 10; 11; 13 if fewer work cells are lent; 12 if the buffer

@@ -10,6 +10,10 @@ pub const SENTENCE_BYTES: usize = 1_000;
 pub const STACK_CELLS: usize = 1_024;
 /// The most entries of a list.
 pub const LIST_ENTRIES: usize = 128;
+/// The most cells of a book.
+pub const MOST_CELLS: usize = 8_485;
+/// The most bytes of a book.
+pub const MOST_BYTES: usize = 16_679;
 
 /// Why an input was refused, and where. A refused call has changed no lent memory.
 ///
@@ -17,7 +21,7 @@ pub const LIST_ENTRIES: usize = 128;
 /// |---|---|---|
 /// | 1 | a book or list stops before a due number is complete | where the missing number begins |
 /// | 2 | a number is padded, too wide, or over 65,535 | its first byte |
-/// | 3 | the form is not 1 | the number's offset or index |
+/// | 3 | the form is neither 1 nor 2 | the number's offset or index |
 /// | 4 | T, N, S or P outside its range | the number's offset or index |
 /// | 5 | a production's left side or length outside its range | the number's offset or index |
 /// | 6 | something follows the last number | where it begins |
@@ -30,15 +34,19 @@ pub const LIST_ENTRIES: usize = 128;
 /// | 13 | work or stack cells are too few | 0 |
 /// | 14 | an action outside its range, a shift under terminal 0, or accept under another terminal | the number's offset or index |
 /// | 15 | a goto outside its range | the number's offset or index |
+/// | 16 | a rank is T or more, or was used before | the number's offset or index |
+/// | 17 | a rank is not its terminal's number ([`to_form_1`](crate::to_form_1()) only) | the cell's index |
 #[derive(Clone, Copy, Debug, PartialEq, Eq)]
 pub struct Refusal {
     pub number: u16,
     pub place: usize,
 }
 
-/// How many terminals, nonterminals, states and productions a book has.
+/// The form of a book, 1 or 2, and how many terminals, nonterminals, states and productions it
+/// has.
 #[derive(Clone, Copy, Debug, PartialEq, Eq)]
 pub struct Sizes {
+    pub form: u16,
     pub terminals: u16,
     pub nonterminals: u16,
     pub states: u16,

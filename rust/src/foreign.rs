@@ -14,6 +14,20 @@ extern "C" {
         answer: *mut u64,
     );
     fn purlquartz_check(cells: *const u16, cell_count: usize, answer: *mut u64);
+    fn purlquartz_to_form_1(
+        cells: *const u16,
+        cell_count: usize,
+        lent: *mut u16,
+        lent_count: usize,
+        answer: *mut u64,
+    );
+    fn purlquartz_to_form_2(
+        cells: *const u16,
+        cell_count: usize,
+        lent: *mut u16,
+        lent_count: usize,
+        answer: *mut u64,
+    );
     fn purlquartz_write(
         cells: *const u16,
         cell_count: usize,
@@ -118,6 +132,30 @@ pub(crate) fn read(bytes: &[u8], cells: &mut [u16]) -> Answer {
 pub(crate) fn check(cells: &[u16]) -> Answer {
     let mut answer = [0; 8];
     unsafe { purlquartz_check(cells.as_ptr(), cells.len(), answer.as_mut_ptr()) }
+    answer
+}
+
+pub(crate) fn to_form_1(cells: &[u16], lent: &mut [u16]) -> Answer {
+    converted(purlquartz_to_form_1, cells, lent)
+}
+
+pub(crate) fn to_form_2(cells: &[u16], lent: &mut [u16]) -> Answer {
+    converted(purlquartz_to_form_2, cells, lent)
+}
+
+type Converter = unsafe extern "C" fn(*const u16, usize, *mut u16, usize, *mut u64);
+
+fn converted(converter: Converter, cells: &[u16], lent: &mut [u16]) -> Answer {
+    let mut answer = [0; 8];
+    unsafe {
+        converter(
+            cells.as_ptr(),
+            cells.len(),
+            lent.as_mut_ptr(),
+            lent.len(),
+            answer.as_mut_ptr(),
+        )
+    }
     answer
 }
 

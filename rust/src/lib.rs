@@ -2,9 +2,12 @@
 //!
 //! A *book* holds a parser's tables: T terminals, N nonterminals, S states and P productions. In
 //! memory it is a row of 16-bit cells; [`read`] and [`write`](write()) turn bytes into cells and
-//! back. All memory is lent by the caller. Each call checks its inputs whole before it writes
-//! anything, so that a refused call changes nothing. Refusals come in the order: the book's, the
-//! list's or sentence's, then 10, 11, 13, 12.
+//! back. Its *form* is 1 or 2, and every call takes both: in form 2 each terminal has a rank, in
+//! form 1 its number is its rank. [`to_form_1`] and [`to_form_2`] turn one form into the other.
+//!
+//! All memory is lent by the caller. Each call checks its inputs whole before it writes anything,
+//! so that a refused call changes nothing. Refusals come in the order: the book's, the list's or
+//! sentence's, then 17, 10, 11, 13, 12.
 #![deny(unsafe_code)]
 
 mod answers;
@@ -19,24 +22,44 @@ use foreign::Answer;
 /// Reads a book from bytes into the first lent cells, and answers how many. The cells after them
 /// keep their values.
 ///
-/// Refusals: 1 to 6, 14 and 15 with the offset of the number's first byte; 12 if the book has
+/// Refusals: 1 to 6 and 14 to 16 with the offset of the number's first byte; 12 if the book has
 /// more cells than are lent.
 pub fn read(bytes: &[u8], cells: &mut [u16]) -> Result<usize, Refusal> {
     count(foreign::read(bytes, cells))
 }
 
-/// Checks the cells of a book and answers its sizes.
+/// Checks the cells of a book and answers its form and its sizes.
 ///
-/// Refusals: 1, 3, 4, 5, 14, 15 and 6 with the cell's index. Every call that takes cells gives
+/// Refusals: 1, 3, 4, 5, 16, 14, 15 and 6 with the cell's index. Every call that takes cells gives
 /// these first.
 pub fn check(cells: &[u16]) -> Result<Sizes, Refusal> {
     let answer = accepted(foreign::check(cells))?;
     Ok(Sizes {
+        form: answer[5] as u16,
         terminals: answer[1] as u16,
         nonterminals: answer[2] as u16,
         states: answer[3] as u16,
         productions: answer[4] as u16,
     })
+}
+
+/// Writes the book that the cells hold to the first lent cells in form 1, and answers how many. The
+/// cells after them keep their values. The ranks of form 2 are left out, which must be the
+/// terminals' numbers; a book of form 1 is written as it is.
+///
+/// Refusals: those of [`check`]; 17 with the cell's index at the first rank that is not its
+/// terminal's number; 12 if the result has more cells than are lent.
+pub fn to_form_1(cells: &[u16], lent: &mut [u16]) -> Result<usize, Refusal> {
+    count(foreign::to_form_1(cells, lent))
+}
+
+/// Writes the book that the cells hold to the first lent cells in form 2, and answers how many. The
+/// cells after them keep their values. To a book of form 1 the ranks 0 to T - 1 are added, in this
+/// order; a book of form 2 is written as it is, whatever its ranks.
+///
+/// Refusals: those of [`check`]; 12 if the result has more cells than are lent.
+pub fn to_form_2(cells: &[u16], lent: &mut [u16]) -> Result<usize, Refusal> {
+    count(foreign::to_form_2(cells, lent))
 }
 
 /// Writes the book that the cells hold to the first lent bytes, and answers how many. The bytes
@@ -64,10 +87,10 @@ pub fn run(
     Ok(ending(answer[0], stop))
 }
 
-/// Finds the shortest sentence, and of several the earliest in order, that brings the machine to
-/// the state with the lookahead. It stands at the front of the buffer; the bytes after it, or all
-/// where there is none, keep their values. The first T × T × S × (N + 8) work cells are zero
-/// afterwards ([`Sizes::work_cells`]).
+/// Finds the shortest sentence that brings the machine to the state with the lookahead, and of
+/// several the earliest in order: the lower rank at the first difference. It stands at the front of
+/// the buffer; the bytes after it, or all where there is none, keep their values. The first
+/// T × T × S × (N + 8) work cells are zero afterwards ([`Sizes::work_cells`]).
 ///
 /// Refusals: those of [`check`]; 10; 11; 13 if fewer work cells are lent; 12 if the buffer has
 /// fewer than [`SENTENCE_BYTES`] bytes.

@@ -1,5 +1,5 @@
-//! Checks the independent finder by brute force: all sentences, shortest and earliest first, are
-//! run on a machine without limits.
+//! Checks the independent finder by brute force: all sentences, shortest and earliest by rank
+//! first, are run on a machine without limits.
 
 #[allow(dead_code)]
 #[path = "../examples/make_book/grammar.rs"]
@@ -14,8 +14,9 @@ use independent::book::{Action, Book};
 use independent::calls::find_all;
 use independent::machine::{reduction, run, Reduction};
 use purlquartz::{Ending, Found};
-use random::books::{disturbed, small_taste, wild};
+use random::books::{disturbed, small_taste, tied_book, wild};
 use random::grammars::{grammar_book, SMALL};
+use random::ranks::{in_every_order, unranked};
 use random::Random;
 use std::collections::VecDeque;
 
@@ -88,14 +89,22 @@ struct Brute {
     frontier: Option<Vec<u8>>,
 }
 
+/// The terminals, those of lower rank first.
+fn by_rank(book: &Book) -> Vec<usize> {
+    let mut terminals: Vec<usize> = (0..book.terminals()).collect();
+    terminals.sort_by_key(|&terminal| book.ranks[terminal]);
+    terminals
+}
+
 fn brute(book: &Book) -> Brute {
+    let by_rank = by_rank(book);
     let mut first = vec![None; book.states() * book.terminals()];
     let mut open = VecDeque::from([(Vec::new(), vec![0u16])]);
     for _ in 0..MOST_STACKS {
         let Some((sentence, stack)) = open.pop_front() else {
             break;
         };
-        for terminal in 0..book.terminals() {
+        for &terminal in &by_rank {
             let look = look(book, &stack, terminal);
             if sentence.len() <= MOST_RUN {
                 check_run(book, &sentence, terminal, &look);
@@ -144,20 +153,29 @@ fn reaches(book: &Book, sentence: &[u8], state: usize, terminal: usize) -> bool 
     look(book, &stack, terminal).tops.contains(&(state as u16))
 }
 
-/// True if the one sentence is shorter than the other, or as long and earlier.
-fn comes_before(one: &[u8], other: &[u8]) -> bool {
-    (one.len(), one) < (other.len(), other)
+/// True if the one sentence is shorter than the other, or as long and of lower rank at the first
+/// difference.
+fn comes_before(book: &Book, one: &[u8], other: &[u8]) -> bool {
+    let mut symbols = one.iter().zip(other);
+    let difference = symbols.find(|(one, other)| one != other);
+    let lower = difference.is_some_and(|(&one, &other)| {
+        book.ranks[usize::from(one)] < book.ranks[usize::from(other)]
+    });
+    one.len() < other.len() || one.len() == other.len() && lower
 }
 
-/// How many pairs were settled by brute force, with a sentence and without any.
+/// How many pairs were settled by brute force, with a sentence and without any, and how many of the
+/// sentences are others than by the terminals' numbers.
 #[derive(Default)]
 struct Tally {
     sentences: usize,
     unreached: usize,
+    others: usize,
 }
 
 fn compare(book: &Book, tally: &mut Tally) {
     let brute = brute(book);
+    let unranked = find_all(&unranked(book));
     for (pair, (found, sentence)) in find_all(book).into_iter().enumerate() {
         let state = pair / book.terminals();
         let terminal = pair % book.terminals();
@@ -166,9 +184,10 @@ fn compare(book: &Book, tally: &mut Tally) {
             assert_eq!(length, sentence.len());
             assert!(reaches(book, &sentence, state, terminal));
             let frontier = brute.frontier.as_ref();
-            if frontier.is_none_or(|frontier| comes_before(&sentence, frontier)) {
+            if frontier.is_none_or(|frontier| comes_before(book, &sentence, frontier)) {
                 assert_eq!(Some(&sentence), expected.as_ref(), "{pair} {book:?}");
                 tally.sentences += 1;
+                tally.others += usize::from(sentence != unranked[pair].1);
                 continue;
             }
         }
@@ -186,6 +205,7 @@ fn wild_books() {
         compare(&wild(&mut random, taste), &mut tally);
     }
     assert!(tally.sentences > 50_000 && tally.unreached > 20_000);
+    assert!(tally.others > 500);
 }
 
 #[test]
@@ -199,4 +219,35 @@ fn books_of_grammars() {
         compare(&disturbed(&mut random, &book, changes), &mut tally);
     }
     assert!(tally.sentences > 50_000 && tally.unreached > 20_000);
+    assert!(tally.others > 500);
+}
+
+#[test]
+fn books_of_many_ties() {
+    let mut random = Random::new(3);
+    let mut tally = Tally::default();
+    for _ in 0..4_000 {
+        compare(&tied_book(&mut random), &mut tally);
+    }
+    assert!(tally.sentences > 50_000 && tally.others > 4_000);
+}
+
+/// The two books of the specification with their ranks in every order: each pair that is reached
+/// is settled.
+#[test]
+fn every_order_of_ranks() {
+    let bracket = include_bytes!("../../books/bracket.book");
+    let double = include_bytes!("../../books/double.book");
+    let mut tally = Tally::default();
+    let mut reached = 0;
+    for bytes in [&bracket[..], double] {
+        for book in in_every_order(&Book::from_bytes(bytes).expect("a good book")) {
+            compare(&book, &mut tally);
+            let found = find_all(&book).into_iter().map(|(found, _)| found);
+            reached += found.filter(|&found| found != Found::Unreached).count();
+        }
+    }
+    assert_eq!(tally.sentences, reached);
+    // Double (2, 0), in the orders that have 2 before 1.
+    assert_eq!(tally.others, 3);
 }

@@ -18,10 +18,11 @@ use both::{Calls, INDEPENDENT, LIBRARY};
 use independent::book::Book;
 use independent::numbers::encoded;
 use purlquartz::*;
-use random::books::{disturbed, large_taste, medium_taste, small_taste, wild};
+use random::books::{large_taste, medium_book, small_book, tied_book, wild};
 use random::bytes::{damaged, damaged_cells};
-use random::grammars::{grammar_book, long_book, MEDIUM, SMALL};
+use random::grammars::long_book;
 use random::lists::{damaged_list, encode_list, lines, sentence, taken_sentence};
+use random::ranks::{in_every_order, ranked, unranked};
 use random::Random;
 use std::collections::BTreeMap;
 use std::fs;
@@ -49,33 +50,19 @@ impl Tally {
     }
 }
 
-/// A small book: wild, of a grammar, or of a grammar and disturbed.
-fn small_book(random: &mut Random) -> Book {
-    if random.percent(60) {
-        let taste = small_taste(random);
-        return wild(random, taste);
+/// A small book; every twentieth round a medium one.
+fn some_book(random: &mut Random, round: usize) -> Book {
+    match round % 20 {
+        0 => medium_book(random),
+        _ => small_book(random),
     }
-    let book = grammar_book(random, SMALL);
-    let changes = random.below(5);
-    disturbed(random, &book, changes)
-}
-
-fn medium_book(random: &mut Random) -> Book {
-    if random.percent(60) {
-        let taste = medium_taste(random);
-        return wild(random, taste);
-    }
-    let book = grammar_book(random, MEDIUM);
-    let changes = random.below(5);
-    disturbed(random, &book, changes)
 }
 
 /// The cells of the book; sometimes damaged.
 fn some_cells(random: &mut Random, book: &Book) -> Vec<u16> {
-    let cells = book.cells();
     match random.percent(15) {
-        true => damaged_cells(random, &cells),
-        false => cells,
+        true => damaged_cells(random, book),
+        false => book.cells(),
     }
 }
 
@@ -108,10 +95,7 @@ fn books_in_bytes() {
     let mut random = Random::new(11);
     let mut tally = Tally::default();
     for round in 0..30_000 {
-        let book = match round % 20 {
-            0 => medium_book(&mut random),
-            _ => small_book(&mut random),
-        };
+        let book = some_book(&mut random, round);
         let (bytes, count) = (book.bytes(), book.cells().len());
         let cells = lend(&mut random, count);
         tally.note(
@@ -119,7 +103,7 @@ fn books_in_bytes() {
             compare::read(&LIBRARY, &bytes, &cells),
             &book.cells(),
         );
-        let bad_cells = damaged_cells(&mut random, &book.cells());
+        let bad_cells = damaged_cells(&mut random, &book);
         for bytes in [damaged(&mut random, &bytes), encoded(&bad_cells)] {
             tally.note(
                 "read",
@@ -128,7 +112,7 @@ fn books_in_bytes() {
             );
         }
     }
-    tally.expect("read", " 1 2 3 4 5 14 15 6 12");
+    tally.expect("read", " 1 2 3 4 5 16 14 15 6 12");
 }
 
 #[test]
@@ -136,20 +120,45 @@ fn books_in_cells() {
     let mut random = Random::new(12);
     let mut tally = Tally::default();
     for round in 0..30_000 {
-        let book = match round % 20 {
-            0 => medium_book(&mut random),
-            _ => small_book(&mut random),
-        };
+        let book = some_book(&mut random, round);
         let bytes = lend(&mut random, book.bytes().len());
         let good = book.cells();
         tally.note("check", compare::check(&LIBRARY, &good), &good);
         tally.note("write", compare::write(&LIBRARY, &good, &bytes), &good);
-        let bad = damaged_cells(&mut random, &good);
+        let bad = damaged_cells(&mut random, &book);
         tally.note("check", compare::check(&LIBRARY, &bad), &bad);
         tally.note("write", compare::write(&LIBRARY, &bad, &bytes), &bad);
     }
-    tally.expect("check", "Sizes 1 3 4 5 14 15 6");
-    tally.expect("write", " 1 3 4 5 14 15 6 12");
+    tally.expect("check", "Sizes 1 3 4 5 16 14 15 6");
+    tally.expect("write", " 1 3 4 5 16 14 15 6 12");
+}
+
+/// Both converters of cells that are the book's, or near to them. Lent are just enough for the
+/// book, one too few, and more than enough.
+fn compare_converters(random: &mut Random, tally: &mut Tally, book: &Book, cells: &[u16]) {
+    for (form, call) in [(1, "to_form_1"), (2, "to_form_2")] {
+        let enough = unranked(book).in_form(form).cells().len();
+        let more = enough + random.between(1, 40);
+        for count in [enough, enough - 1, more] {
+            let lent = Lent::random(random, count);
+            let outcome = compare::to_form(&LIBRARY, form, cells, &lent);
+            tally.note(call, outcome, cells);
+        }
+    }
+}
+
+#[test]
+fn converters() {
+    let mut random = Random::new(20);
+    let mut tally = Tally::default();
+    for round in 0..15_000 {
+        let book = some_book(&mut random, round);
+        compare_converters(&mut random, &mut tally, &book, &book.cells());
+        let bad = damaged_cells(&mut random, &book);
+        compare_converters(&mut random, &mut tally, &book, &bad);
+    }
+    tally.expect("to_form_1", " 1 3 4 5 16 14 15 6 17 12");
+    tally.expect("to_form_2", " 1 3 4 5 16 14 15 6 12");
 }
 
 /// A sentence: any, one that the machine takes in, a very long one, or a refused one.
@@ -190,7 +199,7 @@ fn runs() {
     }
     let endings = "Accepted Error Broken Passed Deep Spinning";
     tally.expect("run", endings);
-    tally.expect("run", "1 3 4 5 14 15 6 7 8 11 13");
+    tally.expect("run", "1 3 4 5 16 14 15 6 7 8 11 13");
 }
 
 /// Finder, map and sets of one book, with lent memory that is sometimes too short.
@@ -239,10 +248,21 @@ fn finder_of_small_books() {
     }
     tally.expect(
         "find",
-        "Sentence Unreached each 1 3 4 5 14 15 6 10 11 12 13",
+        "Sentence Unreached each 1 3 4 5 16 14 15 6 10 11 12 13",
     );
-    tally.expect("map", " 1 3 4 5 14 15 6 12 13");
-    tally.expect("sets", " 1 3 4 5 14 15 6 12 13");
+    tally.expect("map", " 1 3 4 5 16 14 15 6 12 13");
+    tally.expect("sets", " 1 3 4 5 16 14 15 6 12 13");
+}
+
+#[test]
+fn finder_of_books_with_many_ties() {
+    let mut random = Random::new(21);
+    let mut tally = Tally::default();
+    for _ in 0..5_000 {
+        let book = tied_book(&mut random);
+        compare_each_pair(&mut random, &mut tally, &book);
+    }
+    tally.expect("find", "each");
 }
 
 #[test]
@@ -282,19 +302,40 @@ fn shipped(name: &str) -> Book {
 fn finder_of_shipped_books() {
     let mut random = Random::new(16);
     let mut tally = Tally::default();
-    for name in [
-        "bracket",
-        "double",
-        "arithmetic",
-        "pattern",
-        "json",
-        "statements",
-    ] {
-        compare_each_pair(&mut random, &mut tally, &shipped(name));
+    for name in ["arithmetic", "pattern", "json", "statements"] {
+        let book = shipped(name);
+        compare_each_pair(&mut random, &mut tally, &book);
+        compare_each_pair(&mut random, &mut tally, &turned_round(&book));
     }
     let program = shipped("program");
-    compare_finder(&mut random, &mut tally, &program, &program.cells(), 60);
+    for book in [turned_round(&program), program] {
+        compare_finder(&mut random, &mut tally, &book, &book.cells(), 60);
+    }
     tally.expect("find", "Sentence Unreached");
+}
+
+/// The book in form 2 with the highest terminal first.
+fn turned_round(book: &Book) -> Book {
+    ranked(book, (0..book.sizes.terminals).rev().collect())
+}
+
+/// The two books of the specification in form 1, and in form 2 with their ranks in every order.
+#[test]
+fn every_order_of_ranks() {
+    let mut random = Random::new(23);
+    let mut tally = Tally::default();
+    for book in ["bracket", "double"].map(shipped) {
+        for book in [in_every_order(&book), vec![book]].concat() {
+            let cells = book.cells();
+            compare_each_pair(&mut random, &mut tally, &book);
+            compare_finder(&mut random, &mut tally, &book, &cells, 8);
+            compare_converters(&mut random, &mut tally, &book, &cells);
+            let list = encode_list(&lines(&mut random, &book));
+            compare_list(&mut random, &mut tally, &book, &cells, &list);
+        }
+    }
+    tally.expect("find", "Sentence Unreached each");
+    tally.expect("to_form_1", "17");
 }
 
 #[test]
@@ -355,12 +396,12 @@ fn lists() {
         let list = damaged_list(&mut random, &lines, book.sizes.terminals);
         compare_list(&mut random, &mut tally, &book, &cells, &list);
     }
-    tally.expect("check_list", "Rest 1 2 3 4 5 14 15 6 7 8 9 11");
-    tally.expect("entry", "Some None 1 2 3 4 5 14 15 6 7 8 9 11");
-    tally.expect("entries", " 1 2 3 4 5 14 15 6 7 8 9 11");
+    tally.expect("check_list", "Rest 1 2 3 4 5 16 14 15 6 7 8 9 11");
+    tally.expect("entry", "Some None 1 2 3 4 5 16 14 15 6 7 8 9 11");
+    tally.expect("entries", " 1 2 3 4 5 16 14 15 6 7 8 9 11");
     tally.expect("next_entry", "Some None");
     tally.expect("judge", "Complete Uncovered Repeat Wrong");
-    tally.expect("judge", "1 2 3 4 5 14 15 6 7 8 9 11 13");
+    tally.expect("judge", "1 2 3 4 5 16 14 15 6 7 8 9 11 13");
 }
 
 /// The comparison must notice a wrong map, a wrong place, and writes where there should be none.
@@ -418,6 +459,59 @@ mod faults {
         };
         assert!(compare::check(&subject, &bracket()).is_ok());
         assert!(compare::check(&subject, &bracket()[..20]).is_err());
+    }
+
+    /// The sentence as if the terminals' numbers were their ranks.
+    fn find_by_number(
+        cells: &[u16],
+        state: u16,
+        lookahead: u16,
+        work: &mut [u16],
+        buffer: &mut [u8],
+    ) -> Result<Found, Refusal> {
+        let cells = unranked(&Book::from_cells(cells)?).cells();
+        (INDEPENDENT.find)(&cells, state, lookahead, work, buffer)
+    }
+
+    #[test]
+    fn a_wrong_order_is_noticed() {
+        let subject = Calls {
+            find: find_by_number,
+            ..INDEPENDENT
+        };
+        let (work, buffer) = (Lent::holding(&[7; 800]), Lent::holding(&[7; 1_000]));
+        let each = |book: &Book| compare::find_each(&subject, book, &work, &buffer);
+        assert!(each(&shipped("double")).is_ok());
+        assert!(each(&shipped("double_ranked")).is_err());
+    }
+
+    fn cell_after_book(cells: &[u16], lent: &mut [u16]) -> Result<usize, Refusal> {
+        let answer = (INDEPENDENT.to_form_2)(cells, lent);
+        lent[43] = 0;
+        answer
+    }
+
+    fn ranks_left_out(cells: &[u16], lent: &mut [u16]) -> Result<usize, Refusal> {
+        let book = unranked(&Book::from_cells(cells)?);
+        (INDEPENDENT.to_form_1)(&book.cells(), lent)
+    }
+
+    #[test]
+    fn a_wrong_converter_is_noticed() {
+        let subject = Calls {
+            to_form_1: ranks_left_out,
+            to_form_2: cell_after_book,
+            ..INDEPENDENT
+        };
+        let book = shipped("bracket");
+        let convert = |calls: &Calls, form, cells: &[u16]| {
+            let lent = Lent::holding(&[7; 50]);
+            compare::to_form(calls, form, cells, &lent)
+        };
+        assert!(convert(&subject, 1, &book.in_form(2).cells()).is_ok());
+        assert!(convert(&subject, 1, &turned_round(&book).cells()).is_err());
+        assert!(convert(&INDEPENDENT, 2, &book.cells()).is_ok());
+        assert!(convert(&subject, 2, &book.cells()).is_err());
     }
 
     #[test]

@@ -2,6 +2,7 @@
 //! would take a step-by-step search for ever. Each is asked of the library and of the independent
 //! implementation.
 
+#[macro_use]
 mod both;
 #[allow(dead_code)]
 #[path = "../examples/make_book/grammar.rs"]
@@ -12,25 +13,22 @@ mod independent;
 mod lalr;
 mod random;
 
-use both::{Calls, INDEPENDENT, LIBRARY};
+use both::Calls;
 use grammar::Grammar;
 use purlquartz::*;
-
-/// Makes of each function that takes the calls two tests.
-macro_rules! on_both {
-    ($($name:ident)*) => {
-        mod of_the_library { $(#[test] fn $name() { super::$name(&super::LIBRARY) })* }
-        mod of_the_independent { $(#[test] fn $name() { super::$name(&super::INDEPENDENT) })* }
-    };
-}
 
 on_both! {
     one_number
     refused_places
     refused_parts
+    refused_ranks
     no_left_side
+    longest_book
+    converted_books
+    refused_conversions
     bracket_listing
     double_sentences
+    ranked_sentences
     small_runs
     bracket_lists
     work_cells
@@ -41,9 +39,11 @@ on_both! {
 
 const BRACKET: &[u8] = include_bytes!("../../books/bracket.book");
 const DOUBLE: &[u8] = include_bytes!("../../books/double.book");
+/// Double in form 2 with the ranks 2, 1, 0.
+const DOUBLE_RANKED: &[u8] = include_bytes!("../../books/double_ranked.book");
 
 fn cells_of(calls: &Calls, bytes: &[u8]) -> Vec<u16> {
-    let mut cells = vec![0; 8_453];
+    let mut cells = vec![0; MOST_CELLS];
     let count = (calls.read)(bytes, &mut cells).expect("a good book");
     cells.truncate(count);
     cells
@@ -89,29 +89,29 @@ fn refused_places(calls: &Calls) {
     };
     assert_eq!(refused(&BRACKET[..38]), (1, 38));
     assert_eq!(refused(&[BRACKET, &[0x80]].concat()), (6, 39));
+    assert_eq!(refused(&[0]), (3, 0));
+    assert_eq!(refused(&[3, 33]), (3, 0));
     assert_eq!(refused(&[1, 33]), (4, 1));
     assert_eq!(refused(&[1, 4, 1, 0x81, 0x01]), (4, 3));
     assert_eq!(refused(&[1, 4, 1, 6, 2, 1]), (5, 5));
 }
 
-/// Bracket with some of its numbers changed, which in bytes and in cells have the same places.
-/// The first that is named is the first fault, and is told by the number of its part.
+/// A book of small numbers with some of them changed, which in bytes and in cells have the same
+/// places. The first that is named is the first fault, and is told by the number of its part.
+fn refused_with(calls: &Calls, book: &[u8], number: u16, faults: &[(usize, u8)]) {
+    let mut bytes = book.to_vec();
+    for &(at, value) in faults {
+        bytes[at] = value;
+    }
+    let cells: Vec<u16> = bytes.iter().map(|&byte| byte.into()).collect();
+    let place = faults[0].0;
+    let refusal = Refusal { number, place };
+    assert_eq!((calls.read)(&bytes, &mut [0; 99]), Err(refusal));
+    assert_eq!((calls.check)(&cells), Err(refusal));
+}
+
 fn refused_parts(calls: &Calls) {
-    let cells = cells_of(calls, BRACKET);
-    let refused = |number, faults: &[(usize, u8)]| {
-        let mut bytes = BRACKET.to_vec();
-        let mut cells = cells.clone();
-        for &(at, value) in faults {
-            bytes[at] = value;
-            cells[at] = value.into();
-        }
-        let refusal = Refusal {
-            number,
-            place: faults[0].0,
-        };
-        assert_eq!((calls.read)(&bytes, &mut [0; 99]), Err(refusal));
-        assert_eq!((calls.check)(&cells), Err(refusal));
-    };
+    let refused = |number, faults: &[_]| refused_with(calls, BRACKET, number, faults);
     // The first and the last left side, then length.
     for fault in [(5, 1), (7, 1), (6, 33), (8, 33)] {
         refused(5, &[fault]);
@@ -134,6 +134,31 @@ fn refused_parts(calls: &Calls) {
     refused(14, &[(9, 7), (38, 7)]);
 }
 
+fn refused_ranks(calls: &Calls) {
+    let book = [&[2], &BRACKET[1..9], &[3, 1, 0, 2], &BRACKET[9..]].concat();
+    assert_eq!((calls.read)(&book, &mut [0; 99]), Ok(43));
+    let refused = |number, faults: &[_]| refused_with(calls, &book, number, faults);
+    // The first and the last rank T or more, then used before.
+    for fault in [(9, 4), (12, 4), (12, 127), (10, 3), (12, 3), (12, 0)] {
+        refused(16, &[fault]);
+    }
+    // The first of two, be it too high or used before.
+    refused(16, &[(10, 4), (11, 3)]);
+    refused(16, &[(10, 3), (12, 4)]);
+    // After the productions, before the actions and gotos.
+    refused(5, &[(8, 33), (9, 4)]);
+    refused(16, &[(12, 3), (13, 2)]);
+    refused(16, &[(9, 4), (42, 7)]);
+    refused(14, &[(13, 2)]);
+    refused(15, &[(42, 7)]);
+    // Where a number takes two bytes, the offset is not the index.
+    let refusal = |place| Refusal { number: 16, place };
+    let bytes = [2, 2, 0, 0x80, 0x01, 0, 1, 1];
+    assert_eq!((calls.read)(&bytes, &mut [0; 999]), Err(refusal(7)));
+    let cells = [2, 2, 0, 128, 0, 1, 1];
+    assert_eq!((calls.check)(&cells), Err(refusal(6)));
+}
+
 /// N = 0 with P = 1: no left side is in range.
 fn no_left_side(calls: &Calls) {
     let refusal = Refusal {
@@ -145,6 +170,85 @@ fn no_left_side(calls: &Calls) {
         Err(refusal)
     );
     assert_eq!((calls.check)(&[1, 1, 0, 1, 1, 0, 0, 0]), Err(refusal));
+}
+
+/// Every size and every number at its most.
+fn longest_book(calls: &Calls) {
+    let mut cells = vec![2, 32, 32, 128, 128];
+    cells.extend([31, 32].repeat(128));
+    cells.extend((0..32).rev());
+    let (reduce, shift) = (3 + 2 * 127, 2 + 2 * 127);
+    cells.extend([&[reduce][..], &[shift; 31]].concat().repeat(128));
+    cells.extend([128; 128 * 32]);
+    assert_eq!(cells.len(), MOST_CELLS);
+    let sizes = Sizes {
+        form: 2,
+        terminals: 32,
+        nonterminals: 32,
+        states: 128,
+        productions: 128,
+    };
+    assert_eq!((calls.check)(&cells), Ok(sizes));
+    let mut bytes = vec![0; MOST_BYTES];
+    assert_eq!((calls.write)(&cells, &mut bytes), Ok(MOST_BYTES));
+    assert_eq!(cells_of(calls, &bytes), cells);
+    let refusal = Refusal {
+        number: 17,
+        place: 261,
+    };
+    assert_eq!(converted(calls, 1, &cells), Err(refusal));
+    assert_eq!(converted(calls, 2, &cells), Ok(cells));
+}
+
+/// What a converter writes, both into more cells than that and into just enough; or its refusal.
+fn converted(calls: &Calls, form: u16, cells: &[u16]) -> Result<Vec<u16>, Refusal> {
+    let mut lent = vec![7; MOST_CELLS];
+    let count = calls.to_form(form)(cells, &mut lent)?;
+    assert!(lent[count..].iter().all(|&cell| cell == 7));
+    lent.truncate(count);
+    let mut enough = vec![0; count];
+    assert_eq!(calls.to_form(form)(cells, &mut enough), Ok(count));
+    assert_eq!(enough, lent);
+    Ok(lent)
+}
+
+fn converted_books(calls: &Calls) {
+    for (bytes, first_rank, ranks) in [(BRACKET, 9, &[0, 1, 2, 3][..]), (DOUBLE, 13, &[0, 1, 2])] {
+        let form_1 = cells_of(calls, bytes);
+        let form_2 = [&[2], &form_1[1..first_rank], ranks, &form_1[first_rank..]].concat();
+        assert_eq!(converted(calls, 2, &form_1), Ok(form_2.clone()));
+        assert_eq!(converted(calls, 1, &form_2), Ok(form_1.clone()));
+        assert_eq!(converted(calls, 1, &form_1), Ok(form_1));
+        assert_eq!(converted(calls, 2, &form_2), Ok(form_2));
+    }
+    let ranked = cells_of(calls, DOUBLE_RANKED);
+    assert_eq!(converted(calls, 2, &ranked), Ok(ranked));
+}
+
+/// After the book's own refusals 17, at the first rank that is not its terminal's number, then 12.
+fn refused_conversions(calls: &Calls) {
+    let refused = |form, cells: &[u16], lent: usize, number, place| {
+        let mut lent = vec![7; lent];
+        let answer = calls.to_form(form)(cells, &mut lent);
+        assert_eq!(answer, Err(Refusal { number, place }));
+        assert!(lent.iter().all(|&cell| cell == 7));
+    };
+    let mut cells = cells_of(calls, DOUBLE_RANKED);
+    refused(1, &cells, 99, 17, 13);
+    refused(1, &cells, 0, 17, 13);
+    refused(2, &cells, 55, 12, 0);
+    refused(1, &[&cells[..], &[0]].concat(), 99, 6, 56);
+    refused(1, &cells[..55], 99, 1, 55);
+    cells[13..16].copy_from_slice(&[0, 2, 1]);
+    refused(1, &cells, 99, 17, 14);
+    cells[14] = 0;
+    refused(1, &cells, 99, 16, 14);
+    refused(2, &cells, 0, 16, 14);
+    cells[13..16].copy_from_slice(&[0, 1, 2]);
+    refused(1, &cells, 52, 12, 0);
+    let form_1 = cells_of(calls, DOUBLE);
+    refused(1, &form_1, 52, 12, 0);
+    refused(2, &form_1, 55, 12, 0);
 }
 
 fn bracket_listing(calls: &Calls) {
@@ -182,6 +286,26 @@ fn double_sentences(calls: &Calls) {
     ];
     for (state, lookahead, sentence) in lines {
         assert_eq!(find(calls, &cells, state, lookahead), Ok(sentence.to_vec()));
+    }
+}
+
+/// Double in form 2. Only (2, 0) has two shortest sentences, and they differ in 1 and 2: which is
+/// found depends on whether 2 has a lower rank than 1.
+fn ranked_sentences(calls: &Calls) {
+    let ranked = |ranks: &[u8]| [&[2], &DOUBLE[1..13], ranks, &DOUBLE[13..]].concat();
+    assert_eq!(DOUBLE_RANKED, ranked(&[2, 1, 0]));
+    let lines: [([u8; 3], &[u8]); 6] = [
+        ([0, 1, 2], &[1, 1, 1]),
+        ([1, 0, 2], &[1, 1, 1]),
+        ([2, 0, 1], &[1, 1, 1]),
+        ([0, 2, 1], &[1, 2, 2]),
+        ([1, 2, 0], &[1, 2, 2]),
+        ([2, 1, 0], &[1, 2, 2]),
+    ];
+    for (ranks, sentence) in lines {
+        let cells = cells_of(calls, &ranked(&ranks));
+        assert_eq!(find(calls, &cells, 2, 0), Ok(sentence.to_vec()));
+        assert_eq!(find(calls, &cells, 3, 1), Ok(vec![1, 1]));
     }
 }
 

@@ -40,13 +40,9 @@ unfoldable pub row : (ℕ → Number) → (List ℕ → ℕ → ℕ) → ℕ →
 row source fault zero seen at = read [] at
 row source fault (suc k) seen at = joined (single (admitted (fault seen) at (source at))) (λ vs next. row source fault k (seen ++ vs) next)
 
--- the faults that look at no more than how many were seen
-abbrev pub byIndex : (ℕ → ℕ → ℕ) → List ℕ → ℕ → ℕ
-byIndex fault seen = fault (length seen)
-
 -- the numbers of a part
 abbrev pub partIn : (ℕ → Number) → Sizes → Part → ℕ → Row
-partIn source d part at = row source (byIndex (fault d part)) (partLength d part) [] at
+partIn source d part at = row source (fault d part) (partLength d part) [] at
 
 -- parts one after the other
 unfoldable pub partsIn : (ℕ → Number) → Sizes → List Part → ℕ → Row
@@ -55,7 +51,7 @@ partsIn source d (part ∷ more) at = joined (partIn source d part at) (λ vs ne
 
 -- the parts after the head, whose sizes it says
 abbrev pub body : List Part
-body = Part.Productions ∷ Part.Actions ∷ Part.Gotos ∷ []
+body = Part.Productions ∷ Part.Ranks ∷ Part.Actions ∷ Part.Gotos ∷ []
 
 -- 'Nothing follows the last goto': the row, where it ends at the end, or '6 something follows the last number'
 abbrev pub whole : ℕ → Row → Row

@@ -18,7 +18,7 @@ use Rattle.number.specs.declared.Cursor.{Cursor}
 use Rattle.number.specs.declared.Number.{Number}
 use Rattle.number.specs.declared.Number.the-variants.{Value, Refused}
 use Rattle.number.specs.declared.Refusal.{Refusal}
-use Rattle.book.specs.Book.{cellAt, Row, read, refused, before, byIndex, partIn, partsIn, joined, body, whole, bookIn, ofCells, checked, delivered}
+use Rattle.book.specs.Book.{cellAt, Row, read, refused, before, partIn, partsIn, joined, body, whole, bookIn, ofCells, checked, delivered}
 use Rattle.book.specs.CellsLaws.{Segment, cells-part, cells-parts}
 use Rattle.book.specs.PartsLaws.{total, joined-read, part-length, part-clean, parts-length, values-parts}
 use Rattle.book.specs.Range.{headLowest, headHighest, fault}
@@ -37,14 +37,14 @@ closing d end (Refused r) = CheckedRefused r
 closing d end (Value v next) = cond (ltb (next .at) end) (CheckedRefused (record { number = 6; place = next .at })) (Valid d)
 
 -- ---- the head
-sizes-append : (head body : List ℕ) → length head ≡ 5 → sizesOf (head ++ body) ≡ sizesOf head
+pub sizes-append : (head body : List ℕ) → length head ≡ 5 → sizesOf (head ++ body) ≡ sizesOf head
 unfolding sizesOf
 sizes-append head body h =
-    rw (List·getD-append head body 0 1 (omega arith), List·getD-append head body 0 2 (omega arith), List·getD-append head body 0 3 (omega arith), List·getD-append head body 0 4 (omega arith))
+    rw (List·getD-append head body 0 0 (omega arith), List·getD-append head body 0 1 (omega arith), List·getD-append head body 0 2 (omega arith), List·getD-append head body 0 3 (omega arith), List·getD-append head body 0 4 (omega arith))
 
 pub sizes-take : (cells : List ℕ) → sizesOf (take 5 cells) ≡ sizesOf cells
 unfolding sizesOf
-sizes-take cells = rw (getD-take 5 cells 1 0 (omega arith), getD-take 5 cells 2 0 (omega arith), getD-take 5 cells 3 0 (omega arith), getD-take 5 cells 4 0 (omega arith))
+sizes-take cells = rw (getD-take 5 cells 0 0 (omega arith), getD-take 5 cells 1 0 (omega arith), getD-take 5 cells 2 0 (omega arith), getD-take 5 cells 3 0 (omega arith), getD-take 5 cells 4 0 (omega arith))
 
 -- the head that a source begins with
 abbrev pub headIn : (ℕ → Number) → Row
@@ -55,21 +55,22 @@ module _ (source : ℕ → Number) (head : List ℕ) (at : ℕ) (e : headIn sour
   head-length = part-length source (sizesOf []) Part.Head 0 head at e
 
   head-bounds : (i : ℕ) → i < 5 → (getD headLowest i 0 ≤ getD head i 0) × (getD head i 0 ≤ getD headHighest i 0)
-  head-bounds i l = head-range (sizesOf []) i (getD head i 0) (part-clean source (sizesOf []) Part.Head 0 head at e i l)
+  head-bounds i l = head-range (sizesOf []) i _ (getD head i 0) (part-clean source (sizesOf []) Part.Head 0 head at e i l)
 
   head-small : Small (sizesOf head)
   unfolding sizesOf
   head-small =
+      let f = head-bounds 0 (omega arith) in
       let t = head-bounds 1 (omega arith) in
       let n = head-bounds 2 (omega arith) in
       let s = head-bounds 3 (omega arith) in
       let p = head-bounds 4 (omega arith) in
-      record { some-terminal = t .0; terminals = t .1; nonterminals = n .1; some-state = s .0; states = s .1; productions = p .1 }
+      record { some-form = f .0; forms = f .1; some-terminal = t .0; terminals = t .1; nonterminals = n .1; some-state = s .0; states = s .1; productions = p .1 }
 
   -- it is the first five numbers of the source
   head-values : values source 5 0 ≡ head
   unfolding values
-  head-values = rw append-nil at (values-row source (byIndex (fault (sizesOf []) Part.Head)) 5 0 [] 0 head at e)
+  head-values = rw append-nil at (values-row source (fault (sizesOf []) Part.Head) 5 0 [] 0 head at e)
 
 -- ---- the verdict
 module _ (source : ℕ → Number) (end : ℕ) where
@@ -193,7 +194,7 @@ module _ {source : ℕ → Number} {end : ℕ} {cells : List ℕ} {next : ℕ} (
       let after : values source (bodyLength d) (w .at) ≡ w .rest =
       rw (add-zero, append-nil, body-total) at (values-parts source d body 0 (w .at) (w .rest) next (w .second)) in
       rw (whole-sizes, w .both)
-      (values-row source (byIndex (fault (sizesOf []) Part.Head)) 5 (bodyLength d) [] 0 (w .head) (w .at) (w .first)
+      (values-row source (fault (sizesOf []) Part.Head) 5 (bodyLength d) [] 0 (w .head) (w .at) (w .first)
       ∙ ap (λ (l : List ℕ). w .head ++ l) after)
 
 -- the two segments of cells that hold a book

@@ -7,11 +7,13 @@ pub mod Call
 pub mod CallLaws
 pub mod CellsLaws
 pub mod IndexLaws
+pub mod Order
 pub mod PartsLaws
 pub mod Range
 pub mod RangeLaws
 pub mod RoundTripLaws
 pub mod RowLaws
+pub mod SeenLaws
 pub mod SizeLaws
 pub mod Tables
 pub mod TablesLaws

@@ -1,6 +1,6 @@
 -- Laws of parts one after the other. Assumes nothing.
 use mathlib.Core.Path.{_≡_, refl, sym, _∙_, ap}
-use mathlib.Core.Bool.{true, false}
+use mathlib.Core.Bool.{Bool, true, false}
 use mathlib.Core.List.{List, [], _∷_, _++_, append-assoc}
 use Prim.Native.Nat.{ℕ, _+_, _<_}
 use native.Mathlib.Nat.{zero-add, add-assoc}
@@ -12,12 +12,12 @@ use Rattle.number.specs.Number.{numberAt, refusal}
 use Rattle.number.specs.declared.Cursor.{Cursor}
 use Rattle.number.specs.declared.Number.{Number}
 use Rattle.number.specs.declared.Number.the-variants.{Value, Refused}
-use Rattle.book.specs.Book.{cellAt, Row, read, refused, before, byIndex, admitted, partIn, partsIn, joined, body}
-use Rattle.book.specs.Range.{partLength, fits, faultNumber, fault}
+use Rattle.book.specs.Book.{cellAt, Row, read, refused, before, admitted, partIn, partsIn, joined, body}
+use Rattle.book.specs.Range.{partLength, fits, faultUnless, faultNumber, among, fault}
 use Rattle.book.specs.RowLaws.{ends, after, ends-joined, refused-not-read, row-length, row-clean, values, values-row}
 use Rattle.book.specs.RangeLaws.{fault-fits, some-number}
 use Rattle.book.specs.declared.Part.{Part}
-use Rattle.book.specs.declared.Part.the-variants.{Productions, Actions, Gotos}
+use Rattle.book.specs.declared.Part.the-variants.{Productions, Ranks, Actions, Gotos}
 use Rattle.book.specs.declared.Sizes.{Sizes}
 use Rattle.book.specs.declared.Source.{Source}
 use Rattle.book.specs.declared.Source.the-variants.{Bytes, Cells}
@@ -52,13 +52,13 @@ joined-read (read front mid) rest vs next e = go (rest front mid) refl e
 module _ (source : ℕ → Number) (d : Sizes) where
   -- a part that was read
   pub part-length : (part : Part) (at : ℕ) (vs : List ℕ) (next : ℕ) → partIn source d part at ≡ read vs next → length vs ≡ partLength d part
-  part-length part at vs next e = row-length source (byIndex (fault d part)) (partLength d part) [] at vs next e
+  part-length part at vs next e = row-length source (fault d part) (partLength d part) [] at vs next e
 
   pub part-clean : (part : Part) (at : ℕ) (vs : List ℕ) (next : ℕ) → partIn source d part at ≡ read vs next → (i : ℕ) → i < partLength d part
-      → fits d part i (getD vs i 0) ≡ true
+      → fits d part i (among (getD vs i 0) (take i vs)) (getD vs i 0) ≡ true
   part-clean part at vs next e i l =
       let before : length (take i vs) ≡ i = length-take-le i vs (omega (arith, part-length part at vs next e)) in
-      fault-fits d part i (getD vs i 0) (rw before at (row-clean source (byIndex (fault d part)) (partLength d part) [] at vs next e i l))
+      rw before at (fault-fits d part (take i vs) (getD vs i 0) (row-clean source (fault d part) (partLength d part) [] at vs next e i l))
 
   pub parts-empty : (at : ℕ) (vs : List ℕ) (next : ℕ) → partsIn source d [] at ≡ read vs next → ([] ≡ vs) × (at ≡ next)
   unfolding partsIn
@@ -87,7 +87,7 @@ module _ (source : ℕ → Number) (d : Sizes) where
   values-parts (part ∷ more) m at vs next e =
       let f = parts-front part more at vs next e in
       rw (add-assoc, f .both, append-assoc)
-      (values-row source (byIndex (fault d part)) (partLength d part) (total d more + m) [] at (f .front) (f .mid) (f .first)
+      (values-row source (fault d part) (partLength d part) (total d more + m) [] at (f .front) (f .mid) (f .first)
       ∙ ap (λ (l : List ℕ). f .front ++ l) (values-parts more m (f .mid) (f .back) next (f .second)))
 
   -- ---- where parts end, as a function that goes on part by part knows it
@@ -106,15 +106,14 @@ module _ (source : ℕ → Number) (d : Sizes) where
       by-row (read vs end) = refl
       by-row (refused r) = refl
 
-  pub after-body : (head : Number) {productions actions gotos : Number} → productions ≡ after head (λ at. ends (partIn source d Productions at))
-      → actions ≡ after productions (λ at. ends (partIn source d Actions at)) → gotos ≡ after actions (λ at. ends (partIn source d Gotos at))
+  pub after-body : (head : Number) {productions ranks actions gotos : Number} → productions ≡ after head (λ at. ends (partIn source d Productions at))
+      → ranks ≡ after productions (λ at. ends (partIn source d Ranks at)) → actions ≡ after ranks (λ at. ends (partIn source d Actions at)) → gotos ≡ after actions (λ at. ends (partIn source d Gotos at))
       → gotos ≡ after head (λ at. ends (partsIn source d body at))
-  after-body head {productions} {actions} {gotos} p a g =
-      after-last actions gotos Gotos g ∙ after-part productions actions Actions (Gotos ∷ []) a
-      ∙ after-part head productions Productions (Actions ∷ Gotos ∷ []) p
+  after-body head {productions} {ranks} {actions} {gotos} p r a g =
+      after-last actions gotos Gotos g ∙ after-part ranks actions Actions (Gotos ∷ []) a ∙ after-part productions ranks Ranks (Actions ∷ Gotos ∷ []) r
+      ∙ after-part head productions Productions (Ranks ∷ Actions ∷ Gotos ∷ []) p
 
 -- ---- a number of a part that does not fit
-pub admitted-faulty : (d : Sizes) (part : Part) (i v at : ℕ) (next : Cursor) → fits d part i v ≡ false
-    → admitted (fault d part i) at (Value v next) ≡ refusal (faultNumber part i) at
-unfolding fault
-admitted-faulty d part i v at next e = rw (e, ne-eqb (faultNumber part i) 0 (some-number part i))
+pub admitted-faulty : (part : Part) (i v at : ℕ) (next : Cursor) (fits : ℕ → Bool) → fits v ≡ false
+    → admitted (λ v. faultUnless (fits v) (faultNumber part i)) at (Value v next) ≡ refusal (faultNumber part i) at
+admitted-faulty part i v at next fits e = rw (e, ne-eqb (faultNumber part i) 0 (some-number part i))

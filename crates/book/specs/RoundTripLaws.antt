@@ -13,7 +13,7 @@ use Rattle.number.specs.NumberLaws.{Bytes, first-written, first-stands}
 use Rattle.number.specs.declared.Cursor.{Cursor}
 use Rattle.number.specs.declared.Number.{Number}
 use Rattle.number.specs.declared.Number.the-variants.{Value}
-use Rattle.book.specs.Book.{cellAt, read, row, byIndex, partsIn, body, bookIn, ofBytes, ofCells, bytesOf}
+use Rattle.book.specs.Book.{cellAt, read, row, partsIn, body, bookIn, ofBytes, ofCells, bytesOf}
 use Rattle.book.specs.BookLaws.{book-whole}
 use Rattle.book.specs.PartsLaws.{parts-empty, parts-front}
 use Rattle.book.specs.Range.{fault, partLength}
@@ -74,7 +74,7 @@ module _ (source : ℕ → Number) (d : Sizes) where
   parts-reads (part ∷ others) at vs next e =
       let f = parts-front source d part others at vs next e in
       rw (f .both)
-      (reads-join (row-reads source (byIndex (fault d part)) (partLength d part) [] at (f .front) (f .mid) (f .first))
+      (reads-join (row-reads source (fault d part) (partLength d part) [] at (f .front) (f .mid) (f .first))
       (parts-reads others (f .mid) (f .back) next (f .second)))
 
   reads-parts : {other : ℕ → Number} {vs : List ℕ} (at′ next′ : ℕ) (parts : List Part) (at next : ℕ) → partsIn source d parts at ≡ read vs next
@@ -84,7 +84,7 @@ module _ (source : ℕ → Number) (d : Sizes) where
   reads-parts {other} {vs} at′ next′ (part ∷ others) at next e r =
       let f = parts-front source d part others at vs next e in
       let (mid, p, q) = reads-split (f .front) (f .back) (rw (f .both) at r) in
-      let first = reads-row source (byIndex (fault d part)) (partLength d part) [] at (f .mid) (f .first) p in
+      let first = reads-row source (fault d part) (partLength d part) [] at (f .mid) (f .first) p in
       rw (first, reads-parts mid next′ others (f .mid) next (f .second) q, ← f .both)
 
 -- ---- so does a book
@@ -94,7 +94,7 @@ unfolding bookIn
 book-other source other end end′ cells next next′ e r h =
     let w = book-whole source end cells next e in
     let (mid, p, q) = reads-split (w .head) (w .rest) (rw (w .both) at r) in
-    let f = reads-row source (byIndex (fault (sizesOf []) Head)) 5 [] 0 (w .at) (w .first) p in
+    let f = reads-row source (fault (sizesOf []) Head) 5 [] 0 (w .at) (w .first) p in
     let g = reads-parts source (sizesOf (w .head)) mid next′ body (w .at) next (w .second) q in
     rw (f, g, le-ltb next′ end′ h, ← w .both)
 
@@ -102,7 +102,7 @@ book-reads : (source : ℕ → Number) (end : ℕ) (cells : List ℕ) (next : �
 book-reads source end cells next e =
     let w = book-whole source end cells next e in
     rw (w .both)
-    (reads-join (row-reads source (byIndex (fault (sizesOf []) Head)) 5 [] 0 (w .head) (w .at) (w .first))
+    (reads-join (row-reads source (fault (sizesOf []) Head) 5 [] 0 (w .head) (w .at) (w .first))
     (parts-reads source (sizesOf (w .head)) body (w .at) (w .rest) next (w .second)))
 
 -- ---- cells and bytes as sources

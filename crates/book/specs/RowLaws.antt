@@ -12,7 +12,7 @@ use Rattle.number.specs.declared.Cursor.{Cursor}
 use Rattle.number.specs.declared.Number.{Number}
 use Rattle.number.specs.declared.Number.the-variants.{Value, Refused}
 use Rattle.number.specs.declared.Refusal.{Refusal}
-use Rattle.book.specs.Book.{Row, read, refused, before, admitted, row, byIndex, joined}
+use Rattle.book.specs.Book.{Row, read, refused, before, admitted, row, joined}
 
 -- where a row ends, or its refusal: what a loop that keeps no number knows of it
 abbrev pub ends : Row → Number
@@ -24,7 +24,7 @@ abbrev pub after : Number → (ℕ → Number) → Number
 after (Refused r) rest = Refused r
 after (Value v next) rest = rest (next .at)
 
-ends-before : (vs : List ℕ) (w : Row) → ends (before vs w) ≡ ends w
+pub ends-before : (vs : List ℕ) (w : Row) → ends (before vs w) ≡ ends w
 ends-before vs (read ws at) = refl
 ends-before vs (refused r) = refl
 
@@ -34,7 +34,7 @@ ends-joined (refused r) rest = refl
 
 -- ---- a row of n numbers after i of them, as a loop has it
 module _ (source : ℕ → Number) (fault : List ℕ → ℕ → ℕ) (n i at : ℕ) (seen : List ℕ) where
-  row-more : (v : ℕ) (next : Cursor) → i < n → admitted (fault seen) at (source at) ≡ Value v next
+  pub row-more : (v : ℕ) (next : Cursor) → i < n → admitted (fault seen) at (source at) ≡ Value v next
       → row source fault (n - i) seen at ≡ before (v ∷ []) (row source fault (n - (i + 1)) (seen ++ (v ∷ [])) (next .at))
   unfolding row
   row-more v next h e =
@@ -51,32 +51,32 @@ module _ (source : ℕ → Number) (fault : List ℕ → ℕ → ℕ) (n i at : 
   unfolding row
   row-done h = let k : n - i ≡ 0 = omega arith in rw k
 
--- a loop over the row that keeps no number, with faults by index: i of its n numbers are read, and the next stands at a place
-pub record Turns (source : ℕ → Number) (fault : ℕ → ℕ → ℕ) (n start i at : ℕ) : Type 0 where
+-- a loop over the row that keeps no number: i of its n numbers were seen, and the next stands at a place
+pub record Turns (source : ℕ → Number) (fault : List ℕ → ℕ → ℕ) (n start i at : ℕ) : Type 0 where
   pub seen : List ℕ
   pub count : length seen ≡ i
-  pub left : ends (row source (byIndex fault) n [] start) ≡ ends (row source (byIndex fault) (n - i) seen at)
+  pub left : ends (row source fault n [] start) ≡ ends (row source fault (n - i) seen at)
 
-module _ {source : ℕ → Number} {fault : ℕ → ℕ → ℕ} {n start : ℕ} where
-  pub turns-none : Turns source fault n start 0 start
+module _ {source : ℕ → Number} {fault : List ℕ → ℕ → ℕ} {n start : ℕ} where
+  abbrev pub turns-none : Turns source fault n start 0 start
   turns-none = let k : n - 0 ≡ n = omega arith in record { seen = []; count = refl; left = rw k }
 
-  pub turns-more : {i at v : ℕ} {next : Cursor} → Turns source fault n start i at → i < n → admitted (fault i) at (source at) ≡ Value v next
+  abbrev pub turns-more : {i at v : ℕ} {next : Cursor} (t : Turns source fault n start i at) → i < n → admitted (fault (t .seen)) at (source at) ≡ Value v next
       → Turns source fault n start (i + 1) (next .at)
   turns-more {i} {at} {v} {next} t h e = record {
     seen = t .seen ++ (v ∷ []);
     count = rw length-append (omega (arith, t .count));
     left =
-        t .left ∙ ap ends (row-more source (byIndex fault) n i at (t .seen) v next h (rw (t .count) e))
-        ∙ ends-before (v ∷ []) (row source (byIndex fault) (n - (i + 1)) (t .seen ++ (v ∷ [])) (next .at));
+        t .left ∙ ap ends (row-more source fault n i at (t .seen) v next h e)
+        ∙ ends-before (v ∷ []) (row source fault (n - (i + 1)) (t .seen ++ (v ∷ [])) (next .at));
   }
 
-  pub turns-stop : {i at : ℕ} {r : Refusal} → Turns source fault n start i at → i < n → admitted (fault i) at (source at) ≡ Refused r
-      → Refused r ≡ ends (row source (byIndex fault) n [] start)
-  turns-stop {i} {at} {r} t h e = sym (t .left ∙ ap ends (row-stop source (byIndex fault) n i at (t .seen) r h (rw (t .count) e)))
+  pub turns-stop : {i at : ℕ} {r : Refusal} (t : Turns source fault n start i at) → i < n → admitted (fault (t .seen)) at (source at) ≡ Refused r
+      → Refused r ≡ ends (row source fault n [] start)
+  turns-stop {i} {at} {r} t h e = sym (t .left ∙ ap ends (row-stop source fault n i at (t .seen) r h e))
 
-  pub turns-done : {i at : ℕ} → Turns source fault n start i at → n ≤ i → value 0 at ≡ ends (row source (byIndex fault) n [] start)
-  turns-done {i} {at} t h = sym (t .left ∙ ap ends (row-done source (byIndex fault) n i at (t .seen) h))
+  pub turns-done : {i at : ℕ} → Turns source fault n start i at → n ≤ i → value 0 at ≡ ends (row source fault n [] start)
+  turns-done {i} {at} t h = sym (t .left ∙ ap ends (row-done source fault n i at (t .seen) h))
 
 -- ---- a row that was read
 pub refused-not-read : (r : Refusal) (vs : List ℕ) (next : ℕ) → refused r ≡ read vs next → ⊥

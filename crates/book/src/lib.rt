@@ -12,6 +12,7 @@ pub use bytes::read;
 pub use cells::check;
 pub use cells::write;
 use number::Refusal;
+pub use range::rank_count;
 pub use tables::action_at;
 pub use tables::goto_at;
 pub use tables::left_side;
@@ -25,8 +26,9 @@ pub enum Action {
     Reduce(u16),
 }
 
-// How many terminals, nonterminals, states and productions a book has.
+// A book's form, and how many terminals, nonterminals, states and productions it has.
 pub struct Sizes {
+    pub form: usize,
     pub t: usize,
     pub n: usize,
     pub s: usize,
@@ -37,6 +39,7 @@ pub struct Sizes {
 pub enum Part {
     Head,
     Productions,
+    Ranks,
     Actions,
     Gotos,
 }

@@ -4,6 +4,7 @@ ghost use Rattle.book.specs.Book.{cellAt, partIn, partsIn, body};
 ghost use Rattle.book.specs.BookLaws.{headIn};
 ghost use Rattle.book.specs.PartsLaws.{numbers};
 ghost use Rattle.book.specs.RangeLaws.{Few};
+ghost use Rattle.book.specs.SeenLaws.{marked};
 ghost use Rattle.book.specs.RowLaws.{after, ends};
 use crate::Part;
 use crate::Sizes;
@@ -13,6 +14,7 @@ use crate::range::part_length;
 use number::Cursor;
 use number::Number;
 use number::Refusal;
+use sets::insert;
 
 fn cell_at(cells: &[u16], i: usize) -> Number
     ensures { λ r. ⌜ r ≡ cellAt (now (cells .entry)) i ⌝ }
@@ -35,6 +37,24 @@ fn number_at(source: Source, bytes: &[u8], cells: &[u16], at: usize) -> Number
     }
 }
 
+// The set of the ranks seen, with v in it if it is a rank.
+fn mark(part: Part, ranks: u32, v: u16) -> u32
+    ensures { λ r. ⌜ r ≡ marked part ranks v ⌝ }
+{
+    match part {
+        Part::Head => ranks,
+        Part::Productions => ranks,
+        Part::Ranks => {
+            if v < 32 {
+                return insert(ranks, v as usize);
+            }
+            ranks
+        }
+        Part::Actions => ranks,
+        Part::Gotos => ranks,
+    }
+}
+
 // The numbers of a part from where the one before it ended; answers where they end, or the first refusal.
 fn part_row(
     source: Source,
@@ -52,13 +72,15 @@ fn part_row(
     };
     let n = part_length(d, part);
     let mut at = start.at;
+    let mut ranks: u32 = 0;
     let mut i: usize = 0;
     while i < n {
-        let found = admit(number_at(source, bytes, cells, at), d, part, i, at);
-        let Number::Value(_, next) = found else {
+        let found = admit(number_at(source, bytes, cells, at), d, part, i, at, ranks);
+        let Number::Value(v, next) = found else {
             return found;
         };
         at = next.at;
+        ranks = mark(part, ranks, v);
         i += 1;
     }
     Number::Value(0, Cursor { at })
@@ -69,6 +91,7 @@ pub fn head_row(source: Source, bytes: &[u8], cells: &[u16]) -> Number
     ensures { λ r. ⌜ r ≡ ends (headIn (numbers source (now (bytes .entry)) (now (cells .entry)))) ⌝ }
 {
     let none = Sizes {
+        form: 0,
         t: 0,
         n: 0,
         s: 0,
@@ -84,6 +107,7 @@ pub fn body_rows(source: Source, bytes: &[u8], cells: &[u16], d: Sizes, head: Nu
     ensures { λ r. ⌜ r ≡ after head (λ at. ends (partsIn (numbers source (now (bytes .entry)) (now (cells .entry))) d body at)) ⌝ }
 {
     let productions = part_row(source, bytes, cells, d, Part::Productions, head);
-    let actions = part_row(source, bytes, cells, d, Part::Actions, productions);
+    let ranks = part_row(source, bytes, cells, d, Part::Ranks, productions);
+    let actions = part_row(source, bytes, cells, d, Part::Actions, ranks);
     part_row(source, bytes, cells, d, Part::Gotos, actions)
 }

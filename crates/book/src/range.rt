@@ -6,8 +6,10 @@ ghost use Rattle.book.specs.Action.{actionOf};
 ghost use Rattle.book.specs.Book.{admitted};
 ghost use Rattle.book.specs.BookLaws.{closing};
 ghost use Rattle.book.specs.Tables.{sizesOf};
-ghost use Rattle.book.specs.Range.{partLength, allowed, fits, faultNumber, fault};
-ghost use Rattle.book.specs.RangeLaws.{Few, bodyLength};
+ghost use Rattle.book.specs.declared.Part.the-variants.{Ranks};
+ghost use Rattle.book.specs.Range.{partLength, allowed, fits, faultNumber};
+ghost use Rattle.book.specs.RangeLaws.{Few, bodyLength, faultAmong};
+ghost use Rattle.sets.specs.Bits.{member};
 use crate::Action;
 use crate::Checked;
 use crate::Part;
@@ -15,10 +17,18 @@ use crate::Sizes;
 use crate::actions::decode;
 use number::Number;
 use number::Refusal;
+use sets::contains;
 
 const LOWEST: [u16; 5] = [1, 1, 0, 1, 0];
 
-const HIGHEST: [u16; 5] = [1, 32, 32, 128, 128];
+const HIGHEST: [u16; 5] = [2, 32, 32, 128, 128];
+
+// How many ranks a book has: in form 1 none.
+pub fn rank_count(d: Sizes) -> usize
+    ensures { λ r. ⌜ r ≡ partLength d Ranks ⌝ }
+{
+    if d.form == 2 { d.t } else { 0 }
+}
 
 // How many numbers a part has.
 pub fn part_length(d: Sizes, part: Part) -> usize
@@ -28,6 +38,7 @@ pub fn part_length(d: Sizes, part: Part) -> usize
     match part {
         Part::Head => 5,
         Part::Productions => 2 * d.p,
+        Part::Ranks => rank_count(d),
         Part::Actions => d.s * d.t,
         Part::Gotos => d.s * d.n,
     }
@@ -38,7 +49,7 @@ pub fn body_length(d: Sizes) -> usize
     requires { ⌜ Few d ⌝ }
     ensures { λ r. ⌜ r ≡ bodyLength d ⌝ }
 {
-    2 * d.p + d.s * d.t + d.s * d.n
+    2 * d.p + rank_count(d) + d.s * d.t + d.s * d.n
 }
 
 // Whether the cell's action may stand under the terminal t.
@@ -58,10 +69,10 @@ fn action_allowed(d: Sizes, t: usize, cell: u16) -> bool
     }
 }
 
-// Whether v may stand as number i of a part.
-fn in_range(d: Sizes, part: Part, i: usize, v: u16) -> bool
-    requires { ⌜ i < partLength d part ⌝ }
-    ensures { λ r. ⌜ r ≡ fits d part i v ⌝ }
+// Whether v may stand as number i of a part, of which the ranks before it are a set.
+fn in_range(d: Sizes, part: Part, i: usize, v: u16, ranks: u32) -> bool
+    requires { ⌜ (i < partLength d part) × (d .t ≤ 32) ⌝ }
+    ensures { λ r. ⌜ r ≡ fits d part i (member ranks v) v ⌝ }
 {
     match part {
         Part::Head => LOWEST[i] <= v && v <= HIGHEST[i],
@@ -70,6 +81,12 @@ fn in_range(d: Sizes, part: Part, i: usize, v: u16) -> bool
                 return (v as usize) < d.n;
             }
             v <= 32
+        }
+        Part::Ranks => {
+            if v as usize >= d.t {
+                return false;
+            }
+            !contains(ranks, v as usize)
         }
         Part::Actions => action_allowed(d, i % d.t, v),
         Part::Gotos => (v as usize) <= d.s,
@@ -88,20 +105,21 @@ fn fault_number(part: Part, i: usize) -> u8
             4
         }
         Part::Productions => 5,
+        Part::Ranks => 16,
         Part::Actions => 14,
         Part::Gotos => 15,
     }
 }
 
 // Number i of a part, as it was found at a place, or its refusal.
-pub fn admit(found: Number, d: Sizes, part: Part, i: usize, at: usize) -> Number
-    requires { ⌜ i < partLength d part ⌝ }
-    ensures { λ r. ⌜ r ≡ admitted (fault d part i) at found ⌝ }
+pub fn admit(found: Number, d: Sizes, part: Part, i: usize, at: usize, ranks: u32) -> Number
+    requires { ⌜ (i < partLength d part) × (d .t ≤ 32) ⌝ }
+    ensures { λ r. ⌜ r ≡ admitted (faultAmong d part i (member ranks)) at found ⌝ }
 {
     let Number::Value(v, _) = found else {
         return found;
     };
-    if in_range(d, part, i, v) {
+    if in_range(d, part, i, v, ranks) {
         return found;
     }
     Number::Refused(Refusal {
@@ -116,6 +134,7 @@ pub fn sizes(head: &[u16]) -> Sizes
     ensures { λ r. ⌜ r ≡ sizesOf (now (head .entry)) ⌝ }
 {
     Sizes {
+        form: head[0] as usize,
         t: head[1] as usize,
         n: head[2] as usize,
         s: head[3] as usize,

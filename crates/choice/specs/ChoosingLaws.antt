@@ -1,9 +1,8 @@
 -- Laws of choosing: the first symbol in order with which a word within what is left goes on keeps the right sentence in sight. Assumes nothing.
 use mathlib.Core.List.{List, [], _∷_, _++_, reverse, reverse-append}
-use mathlib.Core.Logic.{_⊎_, inl, inr, ⊎-elim, _↔_}
+use mathlib.Core.Logic.{_↔_}
 use mathlib.Core.Path.{_≡_, refl, _∙_, ap}
 use Prim.Native.Nat.{ℕ, suc, _+_, _-_, _≤_, _<_}
-use native.Mathlib.Decide.{decLt, ℕ-discrete}
 use native.Mathlib.Omega.{arith}
 use lib.ListN.{length, getD, take, set, length-append, length-reverse}
 use lib.Seq.{take-suc, length-take-le}
@@ -23,7 +22,7 @@ use Rattle.walk.specs.ShiftLaws.{Ready}
 use Rattle.walk.specs.Choice.{Chosen, AfterFrom, Onwards, WithinOf, Brings, LandsIn}
 use Rattle.walk.specs.ChoiceLaws.{Tops, reaches-brings, gets-brings, chosen-none, choose, choose-some, choose-ready, choose-terminal, choose-weight, best-chosen, after-more, onwards-map, brings-onwards}
 use Rattle.waiting.specs.Completes.{Completes}
-use Rattle.choice.specs.Choice.{Completing, LowestFrom}
+use Rattle.choice.specs.Choice.{Completing, LowestBy}
 use Rattle.choice.specs.Choosing.{Choosing, Chose}
 use Rattle.choice.specs.GoalLaws.{completes-within}
 use Rattle.choice.specs.Taking.{Stacked, Taken}
@@ -62,44 +61,28 @@ module _ {σ : Scale} {rank : ℕ → ℕ} {B : Tables} {P : List ℕ → Type 0
   tells-here hx = let (q, st, e, hq) = top-first B stack depth (t .stacked) fits in rw e (c .tells hq hx hr)
 
   -- some terminal passes the test ..
-  pub pick-some : (x : ℕ) × ((1 ≤ x) × (x < B .terminals)) × T (reverse (take depth stack)) left x
+  pick-some : (x : ℕ) × ((1 ≤ x) × (x < B .terminals)) × T (reverse (take depth stack)) left x
   pick-some =
       let o = c .onwards (t .word) (t .after) in
       let (x, k) = choose-some o (t .chosen) some in
       let h = choose-terminal o (t .chosen) some i x k in
       (x, h, tells-here (h .1) .1 k)
 
-  -- .. and the first in order that does is right
-  pub pick : (x : ℕ) → x < B .terminals → T (reverse (take depth stack)) left x
-      → ((y : ℕ) → 1 ≤ y → T (reverse (take depth stack)) left y → (y ≡ x) ⊎ (rank x < rank y)) → Picked σ rank B P (t .word) (reverse (take depth stack)) left x
-  pick x hx k f =
+  -- .. and the lowest by rank that does is right
+  pub pick : {x m : ℕ} → B .terminals ≡ m → LowestBy rank (T (reverse (take depth stack)) left) m x → Picked σ rank B P (t .word) (reverse (take depth stack)) left x
+  pick {x} {m} all l =
       let o = c .onwards (t .word) (t .after) in
-      let within = tells-here hx .0 k in
+      let (z, h, k) = pick-some in
+      let below : x < m = l .first z (h .0) (omega (arith, all)) k .0 in
+      let hx : x < B .terminals = omega (arith, all) in
+      let within = tells-here hx .0 (l .found below .1) in
       record {
-        positive = choose-terminal o (t .chosen) some i x within .0;
+        positive = l .found below .0;
         terminal = hx;
         ready = choose-ready o (t .chosen) some x within;
-        chosen = choose o (t .chosen) some x within (λ y m. let (one, hy) = choose-terminal o (t .chosen) some i y m in f y one (tells-here hy .1 m));
+        chosen = choose o (t .chosen) some x within (λ y w. let (one, hy) = choose-terminal o (t .chosen) some i y w in l .first y one (omega (arith, all)) (tells-here hy .1 w) .1);
         affords = choose-weight o (t .chosen) some x within;
       }
-
--- the lowest of the numbers of which P holds is before all others
-lowest-order : {P : ℕ → Type 0} {m x : ℕ} → LowestFrom P 1 m x → (y : ℕ) → 1 ≤ y → P y → (y ≡ x) ⊎ (x < y)
-lowest-order {P} {x} l y h p = go (decLt y x) (ℕ-discrete y x)
-  where
-    go : Dec (y < x) → Dec (y ≡ x) → (y ≡ x) ⊎ (x < y)
-    go (yes o) e = absurd (l .before y h o p)
-    go (no o) (yes e) = inl e
-    go (no o) (no e) = inr (omega arith)
-
--- so it is right where symbols are ordered by their numbers
-pub pick-lowest : {σ : Scale} {B : Tables} {P : List ℕ → Type 0} {begun : List ℕ} {H : List ℕ → ℕ → List ℕ → Type 0} {T : List ℕ → ℕ → ℕ → Type 0} {n depth k left x m : ℕ}
-    {lent buffer stack : List ℕ} → InRange B → Chooser σ B P begun H T → (t : Choosing σ (λ a. a) B P begun n lent buffer stack depth k left) → 1 ≤ left → left ≤ σ .limit
-    → depth ≤ length stack → B .terminals ≡ m → LowestFrom (T (reverse (take depth stack)) left) 1 m x → Picked σ (λ a. a) B P (t .word) (reverse (take depth stack)) left x
-pick-lowest {B} {x} {m} i c t some hr fits all l =
-    let (y, h, k) = pick-some i c t some hr fits in
-    let hx : x < m = ⊎-elim (λ e. omega (arith, h .1, all, e)) (λ o. omega (arith, h .1, all, o)) (lowest-order l y (h .0) k) in
-    pick i c t some hr fits x (omega (arith, all)) (l .found hx) (λ y o p. lowest-order l y o p)
 
 -- ---- one pair
 -- the goal is one pair
@@ -122,10 +105,10 @@ module _ {σ : Scale} {B : Tables} {claim : Claims} {G : ℕ → ℕ → ℕ} {s
     tells = λ hq hx hr. completes-within i c w (λ s′ z′ (e, f). rw f hz) least hq hx hr;
   }
 
-  pub choosing-pick : {begun : List ℕ} {n k left depth x m : ℕ} {lent buffer stack : List ℕ} (t : Choosing σ (λ a. a) B (Brings B z (Tops s) begun) begun n lent buffer stack depth k left) → 1 ≤ left
-      → left ≤ σ .limit → depth ≤ length stack → B .terminals ≡ m → LowestFrom (Completing σ B claim G (take depth stack) left) 1 m x
-      → Picked σ (λ a. a) B (Brings B z (Tops s) begun) (t .word) (reverse (take depth stack)) left x
-  choosing-pick {begun} t some hr fits all l = pick-lowest i (pair-chooser begun) t some hr fits all l
+  pub choosing-pick : {rank : ℕ → ℕ} {begun : List ℕ} {n k left depth x m : ℕ} {lent buffer stack : List ℕ}
+      (t : Choosing σ rank B (Brings B z (Tops s) begun) begun n lent buffer stack depth k left) → 1 ≤ left → left ≤ σ .limit → depth ≤ length stack → B .terminals ≡ m
+      → LowestBy rank (Completing σ B claim G (take depth stack) left) m x → Picked σ rank B (Brings B z (Tops s) begun) (t .word) (reverse (take depth stack)) left x
+  choosing-pick {begun} t some hr fits all l = pick i (pair-chooser begun) t some hr fits all l
 
 -- ---- the loop
 pub begun-length : (depth : ℕ) (stack : List ℕ) → depth ≤ length stack → length (reverse (take depth stack)) ≡ depth

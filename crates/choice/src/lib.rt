@@ -1,4 +1,4 @@
-// The choice of a sentence: symbol by symbol, each the lowest with which the stack completes in the symbols that are left.
+// The choice of a sentence: symbol by symbol, each the lowest by rank with which the stack completes in the symbols that are left.
 mod lowest_symbol;
 mod sentence;
 mod still;

@@ -1,7 +1,8 @@
-// The choice of one symbol: the lowest with which the stack completes.
+// The choice of one symbol: the lowest by rank with which the stack completes.
 ghost use mathlib.Core.Bool.{true, false};
 ghost use mathlib.Core.Path.{_≡_};
 ghost use Prim.Native.Nat.{_≤_, _<_};
+ghost use Rattle.book.specs.Order.{placeIn, Arranged};
 ghost use Rattle.book.specs.Tables.{tablesOf};
 ghost use Rattle.walk.specs.Scale.{plain};
 ghost use Rattle.layers.specs.Crossing.{claimIn, Usable};
@@ -9,12 +10,12 @@ ghost use Rattle.layers.specs.Layer.{entryIn};
 ghost use Rattle.search.specs.Search.{Stack};
 ghost use Rattle.waiting.specs.Pending.{Pends};
 ghost use Rattle.search.specs.Settle.{SearchRoom};
-ghost use Rattle.choice.specs.Choice.{Completing, LowestFrom};
+ghost use Rattle.choice.specs.Choice.{Completing, LowestBy};
 use book::Sizes;
 use search::Found;
 use search::search_with;
 
-// Whether the stack completes within r under the terminal a.
+// Whether the terminal a is a symbol, not the end mark, under which the stack completes within r.
 fn completes(
     cells: &[u16],
     d: Sizes,
@@ -38,9 +39,12 @@ fn completes(
     requires { ⌜ Pends (tablesOf (now cells)) (now pending) ⌝ }
     requires { ⌜ SearchRoom (now values) (now next) (now events) (now done) ⌝ }
     ensures { λ _. ⌜ SearchRoom (now (values .exit)) (now (next .exit)) (now (events .exit)) (now (done .exit)) ⌝ }
-    ensures { λ b. ⌜ (b ≡ true → Completing plain (tablesOf (now (cells .entry))) (claimIn d (now (table .entry))) (entryIn (now (togo .entry))) (now (stack .entry)) r a) ⌝ }
-    ensures { λ b. ⌜ (b ≡ false → Completing plain (tablesOf (now (cells .entry))) (claimIn d (now (table .entry))) (entryIn (now (togo .entry))) (now (stack .entry)) r a → ⊥) ⌝ }
+    ensures { λ b. ⌜ (b ≡ true → (1 ≤ a) × Completing plain (tablesOf (now (cells .entry))) (claimIn d (now (table .entry))) (entryIn (now (togo .entry))) (now (stack .entry)) r a) ⌝ }
+    ensures { λ b. ⌜ (b ≡ false → 1 ≤ a → Completing plain (tablesOf (now (cells .entry))) (claimIn d (now (table .entry))) (entryIn (now (togo .entry))) (now (stack .entry)) r a → ⊥) ⌝ }
 {
+    if a == 0 {
+        return false;
+    }
     match search_with(
         cells,
         d,
@@ -63,7 +67,7 @@ fn completes(
     }
 }
 
-// The lowest symbol from 1 on under which the stack completes within r, or T.
+// The symbol of the lowest rank under which the stack completes within r, or T; the row has the terminals by rising rank.
 pub fn lowest(
     cells: &[u16],
     d: Sizes,
@@ -71,6 +75,7 @@ pub fn lowest(
     rows: &[u8; 4096],
     togo: &[u16; 4096],
     pending: &[u8],
+    order: &[u8; 32],
     stack: &[u16],
     r: u16,
     values: &mut [u16; 4096],
@@ -84,13 +89,15 @@ pub fn lowest(
     requires { ⌜ r ≤ plain .limit ⌝ }
     requires { ⌜ Stack (d .s) (now stack) ⌝ }
     requires { ⌜ Pends (tablesOf (now cells)) (now pending) ⌝ }
+    requires { ⌜ Arranged (d .t) (now order) ⌝ }
     requires { ⌜ SearchRoom (now values) (now next) (now events) (now done) ⌝ }
     ensures { λ _. ⌜ SearchRoom (now (values .exit)) (now (next .exit)) (now (events .exit)) (now (done .exit)) ⌝ }
-    ensures { λ a. ⌜ LowestFrom (Completing plain (tablesOf (now (cells .entry))) (claimIn d (now (table .entry))) (entryIn (now (togo .entry))) (now (stack .entry)) r) 1 (d .t) a ⌝ }
+    ensures { λ a. ⌜ LowestBy (placeIn (now (order .entry))) (Completing plain (tablesOf (now (cells .entry))) (claimIn d (now (table .entry))) (entryIn (now (togo .entry))) (now (stack .entry)) r) (d .t) a ⌝ }
 {
     let t = d.t;
-    let mut a: usize = 1;
-    while a < t {
+    let mut k: usize = 0;
+    while k < t {
+        let a = order[k] as usize;
         if completes(
             cells,
             d,
@@ -110,7 +117,7 @@ pub fn lowest(
         ) {
             return a;
         }
-        a += 1;
+        k += 1;
     }
-    a
+    t
 }

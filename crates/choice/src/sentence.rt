@@ -3,6 +3,7 @@ ghost use mathlib.Core.Path.{_≡_};
 ghost use mathlib.Core.List.{reverse};
 ghost use Prim.Native.Nat.{_+_, _*_, _≤_, _<_};
 ghost use lib.ListN.{length, take};
+ghost use Rattle.book.specs.Order.{placeIn, Arranged};
 ghost use Rattle.book.specs.Tables.{tablesOf};
 ghost use Rattle.walk.specs.Claims.{Closed, Witnessed};
 ghost use Rattle.walk.specs.Scale.{plain};
@@ -29,11 +30,12 @@ pub fn choose(
     rows: &[u8; 4096],
     togo: &[u16; 4096],
     pending: &[u8],
+    order: &[u8; 32],
     s: usize,
     z: usize,
     n: usize,
     stack: &mut [u16],
-    depth: usize,
+    mut depth: usize,
     costs: &mut [u16; 4096],
     values: &mut [u16; 4096],
     on: &mut [u8; 257],
@@ -49,10 +51,10 @@ pub fn choose(
     requires { ⌜ Stacked (d .s) (now stack) depth × (depth + 128 * n ≤ length (now stack)) ⌝ }
     requires { ⌜ ToPair plain (tablesOf (now cells)) (claimIn d (now table)) s z (entryIn (now togo)) × Exact plain (Brings (tablesOf (now cells)) z (Tops s) (reverse (take depth (now stack)))) n ⌝ }
     requires { ⌜ Pends (tablesOf (now cells)) (now pending) ⌝ }
+    requires { ⌜ Arranged (d .t) (now order) ⌝ }
     requires { ⌜ (length (now costs) ≡ 4096) × SearchRoom (now values) (now next) (now events) (now done) ⌝ }
-    ensures { λ _. ⌜ Chose plain (λ a. a) (Brings (tablesOf (now (cells .entry))) z (Tops s) (reverse (take depth (now (stack .entry))))) n (now (buffer .entry)) (now (buffer .exit)) ⌝ }
+    ensures { λ _. ⌜ Chose plain (placeIn (now (order .entry))) (Brings (tablesOf (now (cells .entry))) z (Tops s) (reverse (take depth (now (stack .entry))))) n (now (buffer .entry)) (now (buffer .exit)) ⌝ }
 {
-    let mut top = depth;
     let mut i: usize = 0;
     while i < n {
         let a = lowest(
@@ -62,7 +64,8 @@ pub fn choose(
             rows,
             togo,
             pending,
-            &stack[..top],
+            order,
+            &stack[..depth],
             (n - i) as u16,
             values,
             on,
@@ -72,14 +75,14 @@ pub fn choose(
             done,
         );
         buffer[i] = a as u8;
-        top = take_in(
+        depth = take_in(
             cells,
             d,
             table,
             rows,
             pending,
             stack,
-            top,
+            depth,
             a,
             costs,
             values,

@@ -9,5 +9,6 @@ pub mod ReachedLaws
 pub mod Pair
 pub mod PairLaws
 pub mod AgreementLaws
+pub mod AlikeLaws
 pub mod Failing
 pub mod FailingLaws

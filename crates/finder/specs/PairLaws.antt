@@ -16,7 +16,8 @@ use Rattle.walk.specs.Scale.{Scale, plain, long, unreached}
 use Rattle.walk.specs.Cost.{Exact}
 use Rattle.walk.specs.Answer.{Long, Answer, Unreached as Never, Sentence as Word}
 use Rattle.walk.specs.ShortestLaws.{cost-length}
-use Rattle.walk.specs.AnswerLaws.{exact-unreached}
+use Rattle.walk.specs.AnswerLaws.{exact-unreached, answer-rank}
+use Rattle.walk.specs.OrderLaws.{RankAlike}
 use Rattle.walk.specs.Claims.{Claims, Claimed, Least, Arrival, Onward}
 use Rattle.walk.specs.ClaimsLaws.{claimed-terminal, onward-goal, onward-claimed, weights-least, start-exact}
 use Rattle.layers.specs.Crossing.{claimIn}
@@ -28,6 +29,7 @@ use Rattle.distances.specs.SingleLaws.{single-least}
 use Rattle.choice.specs.ChoosingLaws.{OnePair, ToPair}
 use Rattle.choice.specs.Choosing.{Chose}
 use Rattle.finder.specs.Finder.{Answered}
+use Rattle.finder.specs.declared.Found.{Found}
 use Rattle.finder.specs.declared.Found.the-variants.{Unreached, Long as Far′, Sentence}
 use Rattle.finder.specs.Pair.{Minimum}
 
@@ -76,21 +78,29 @@ module _ {d : Sizes} {cells table weights dist : List ℕ} {s z : ℕ} (h : Hold
       (start-arrival (λ a ha. to-pair 0 a (in-range h .start) ha) (rw (terminals-are h) m))
 
 -- ---- the answers
-pub answer-long : {B : Tables} {s z n : ℕ} → Exact plain (λ w. Reaches B w z s) n → long plain ≤ n → n < unreached plain → Answer plain (λ a. a) B s z Long
-answer-long e g h = (
+pub answer-long : {B : Tables} {s z n : ℕ} → Exact plain (λ w. Reaches B w z s) n → long plain ≤ n → n < unreached plain → (rank : ℕ → ℕ) → Answer plain rank B s z Long
+answer-long e g h rank = (
   ⊎-elim (λ u. absurd (omega arith)) (λ (w, r, u). (w, r)) (e .attained),
   λ w r. omega (arith, e .least w r),
 )
 
-pub answered-unreached : {B : Tables} {s z n : ℕ} {buffer : List ℕ} → Exact plain (λ w. Reaches B w z s) n → unreached plain ≤ n → Answered B s z buffer Unreached buffer
-answered-unreached {n} e h = record {
+pub answered-unreached : {B : Tables} {s z n : ℕ} {buffer : List ℕ} → Exact plain (λ w. Reaches B w z s) n → unreached plain ≤ n → (rank : ℕ → ℕ)
+    → Answered rank B s z buffer Unreached buffer
+answered-unreached {n} e h rank = record {
   thing = Never;
-  right = let same : n ≡ unreached plain = ⊎-elim (λ u. u) (λ (w, r, u). omega (arith, u)) (e .attained) in exact-unreached plain (λ a. a) _ _ _ (rw same at e);
+  right = let same : n ≡ unreached plain = ⊎-elim (λ u. u) (λ (w, r, u). omega (arith, u)) (e .attained) in exact-unreached plain rank _ _ _ (rw same at e);
   same = refl;
 }
 
-pub answered-long : {B : Tables} {s z n : ℕ} {buffer : List ℕ} → Exact plain (λ w. Reaches B w z s) n → long plain ≤ n → n < unreached plain → Answered B s z buffer Far′ buffer
-answered-long e g h = record { thing = Long; right = answer-long e g h; same = refl }
+pub answered-long : {B : Tables} {s z n : ℕ} {buffer : List ℕ} → Exact plain (λ w. Reaches B w z s) n → long plain ≤ n → n < unreached plain → (rank : ℕ → ℕ)
+    → Answered rank B s z buffer Far′ buffer
+answered-long e g h rank = record { thing = Long; right = answer-long e g h rank; same = refl }
 
-pub answered-sentence : {B : Tables} {s z n : ℕ} {buffer left : List ℕ} → Chose plain (λ a. a) (λ w. Reaches B w z s) n buffer left → Answered B s z buffer (Sentence n) left
+pub answered-sentence : {rank : ℕ → ℕ} {B : Tables} {s z n : ℕ} {buffer left : List ℕ} → Chose plain rank (λ w. Reaches B w z s) n buffer left
+    → Answered rank B s z buffer (Sentence n) left
 answered-sentence c = record { thing = Word (c .word); right = c .answer; same = rw (c .front, sym (c .paid) ∙ cost-length (c .word)) }
+
+-- ---- other ranks that agree on the terminals
+pub answered-rank : {rank rank′ : ℕ → ℕ} (B : Tables) {s z : ℕ} {buffer left : List ℕ} {r : Found} → RankAlike rank rank′ B → Answered rank B s z buffer r left
+    → Answered rank′ B s z buffer r left
+answered-rank B {s} {z} f a = record { thing = a .thing; right = answer-rank plain B f s z (a .thing) (a .right); same = a .same }

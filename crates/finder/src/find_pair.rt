@@ -2,8 +2,9 @@
 ghost use mathlib.Core.Path.{_≡_};
 ghost use Prim.Native.Nat.{_≤_, _<_};
 ghost use lib.ListN.{length};
-ghost use Rattle.book.specs.Tables.{tablesOf};
-ghost use Rattle.book.specs.TablesLaws.{Holds};
+ghost use Rattle.book.specs.Order.{placeIn, Arranged};
+ghost use Rattle.book.specs.Tables.{tablesOf, rankOf};
+ghost use Rattle.book.specs.TablesLaws.{Accepted, Holds};
 ghost use Rattle.walk.specs.Scale.{plain};
 ghost use Rattle.finder.specs.Finder.{workCells, cleared, Answered, Finds};
 use crate::Found;
@@ -14,27 +15,54 @@ use crate::prepared::answer;
 use book::Checked;
 use book::Sizes;
 use crossings::crossings;
+use forms::PLAIN;
+use forms::by_rank;
+use forms::plain_cells;
+use forms::plain_sizes;
 use layers::open_rows;
 
-// The answer for an accepted book, in room that is enough.
-fn solve(cells: &[u16], d: Sizes, s: usize, z: usize, work: &mut [u16], buffer: &mut [u8]) -> Found
+// The answer for plain cells and the terminals by rank, in room that is enough.
+fn solve_plain(
+    cells: &[u16],
+    d: Sizes,
+    order: &[u8; 32],
+    s: usize,
+    z: usize,
+    work: &mut [u16],
+    buffer: &mut [u8],
+) -> Found
     requires { ⌜ Holds d (now cells) ⌝ }
+    requires { ⌜ Arranged (d .t) (now order) ⌝ }
     requires { ⌜ (workCells d ≤ length (now work)) × (s < d .s) × (z < d .t) × (plain .limit ≤ length (now buffer)) ⌝ }
-    ensures { λ r. ⌜ Answered (tablesOf (now (cells .entry))) s z (now (buffer .entry)) r (now (buffer .exit)) ⌝ }
+    ensures { λ r. ⌜ Answered (placeIn (now (order .entry))) (tablesOf (now (cells .entry))) s z (now (buffer .entry)) r (now (buffer .exit)) ⌝ }
     ensures { λ _. ⌜ now (work .exit) ≡ cleared d (now (work .entry)) ⌝ }
 {
     let mut rows = [0u8; 4096];
     open_rows(cells, d, &mut rows);
     crossings(cells, d, work, &rows);
-    let found = answer(cells, d, work, s, z, buffer);
+    let found = answer(cells, d, work, order, s, z, buffer);
     let n = work_cells(d);
     clear(work, n);
     found
 }
 
+// The answer for an accepted book of any form.
+fn solve(cells: &[u16], d: Sizes, s: usize, z: usize, work: &mut [u16], buffer: &mut [u8]) -> Found
+    requires { ⌜ Accepted d (now cells) ⌝ }
+    requires { ⌜ (workCells d ≤ length (now work)) × (s < d .s) × (z < d .t) × (plain .limit ≤ length (now buffer)) ⌝ }
+    ensures { λ r. ⌜ Answered (rankOf (now (cells .entry))) (tablesOf (now (cells .entry))) s z (now (buffer .entry)) r (now (buffer .exit)) ⌝ }
+    ensures { λ _. ⌜ now (work .exit) ≡ cleared d (now (work .entry)) ⌝ }
+{
+    let mut plain = [0u16; PLAIN];
+    let n = plain_cells(cells, d, &mut plain);
+    let mut order = [0u8; 32];
+    by_rank(cells, d, &mut order);
+    solve_plain(&plain[..n], plain_sizes(d), &order, s, z, work, buffer)
+}
+
 // The answer for a book that was checked.
 fn find_in(cells: &[u16], d: Sizes, s: u16, z: u16, work: &mut [u16], buffer: &mut [u8]) -> Found
-    requires { ⌜ Holds d (now cells) ⌝ }
+    requires { ⌜ Accepted d (now cells) ⌝ }
     ensures { λ r. ⌜ Finds (now (cells .entry)) s z (now (work .entry)) (now (buffer .entry)) (r, (now (work .exit), now (buffer .exit))) ⌝ }
 {
     match admit_pair(d, s, z, work.len(), buffer.len()) {

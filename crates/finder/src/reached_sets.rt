@@ -2,11 +2,11 @@
 ghost use mathlib.Core.Path.{_≡_};
 ghost use Prim.Native.Nat.{_≤_, _<_};
 ghost use lib.ListN.{length};
-ghost use Rattle.number.specs.Lent.{over};
-ghost use Rattle.book.specs.TablesLaws.{Holds};
+ghost use Rattle.number.specs.Lent.{over, firsts};
+ghost use Rattle.book.specs.TablesLaws.{Accepted};
 ghost use Rattle.finder.specs.Admitted.{Gathered};
 ghost use Rattle.finder.specs.Finder.{workCells, cleared, Gathers};
-ghost use Rattle.finder.specs.Reached.{maskIn, sizeIn, firsts};
+ghost use Rattle.finder.specs.Reached.{maskIn, sizeIn};
 use crate::admission::admit_sets;
 use crate::start_distances::distances_in;
 use book::Checked;
@@ -50,7 +50,7 @@ fn gather(
     masks: &mut [u32],
     sizes: &mut [u32],
 ) -> Written
-    requires { ⌜ Holds d (now cells) ⌝ }
+    requires { ⌜ Accepted d (now cells) ⌝ }
     requires { ⌜ (workCells d ≤ length (now work)) × (d .s ≤ length (now masks)) × (d .s ≤ length (now sizes)) ⌝ }
     ensures { λ r. ⌜ Gathered (now (cells .entry)) d (now (masks .entry)) (now (sizes .entry)) r (now (masks .exit), now (sizes .exit)) ⌝ }
     ensures { λ _. ⌜ now (work .exit) ≡ cleared d (now (work .entry)) ⌝ }
@@ -71,7 +71,7 @@ fn sets_of(
     masks: &mut [u32],
     sizes: &mut [u32],
 ) -> Written
-    requires { ⌜ Holds d (now cells) ⌝ }
+    requires { ⌜ Accepted d (now cells) ⌝ }
     ensures { λ r. ⌜ Gathers (now (cells .entry)) (now (work .entry)) (now (masks .entry)) (now (sizes .entry)) (r, (now (work .exit), (now (masks .exit), now (sizes .exit)))) ⌝ }
 {
     match admit_sets(d, work.len(), masks.len(), sizes.len()) {

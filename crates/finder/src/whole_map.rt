@@ -2,7 +2,7 @@
 ghost use mathlib.Core.Path.{_≡_};
 ghost use Prim.Native.Nat.{_*_, _≤_};
 ghost use lib.ListN.{length};
-ghost use Rattle.book.specs.TablesLaws.{Holds};
+ghost use Rattle.book.specs.TablesLaws.{Accepted};
 ghost use Rattle.finder.specs.Admitted.{Filled};
 ghost use Rattle.finder.specs.Finder.{workCells, cleared, Maps};
 use crate::admission::admit_map;
@@ -15,7 +15,7 @@ use walk::UNREACHED;
 
 // The map of an accepted book, in room that is enough.
 fn fill(cells: &[u16], d: Sizes, work: &mut [u16], lent: &mut [u16]) -> Written
-    requires { ⌜ Holds d (now cells) ⌝ }
+    requires { ⌜ Accepted d (now cells) ⌝ }
     requires { ⌜ (workCells d ≤ length (now work)) × (d .s * d .t ≤ length (now lent)) ⌝ }
     ensures { λ r. ⌜ Filled (now (cells .entry)) d (now (lent .entry)) r (now (lent .exit)) ⌝ }
     ensures { λ _. ⌜ now (work .exit) ≡ cleared d (now (work .entry)) ⌝ }
@@ -30,7 +30,7 @@ fn fill(cells: &[u16], d: Sizes, work: &mut [u16], lent: &mut [u16]) -> Written
 
 // The map of a book that was checked.
 fn map_of(cells: &[u16], d: Sizes, work: &mut [u16], lent: &mut [u16]) -> Written
-    requires { ⌜ Holds d (now cells) ⌝ }
+    requires { ⌜ Accepted d (now cells) ⌝ }
     ensures { λ r. ⌜ Maps (now (cells .entry)) (now (work .entry)) (now (lent .entry)) (r, (now (work .exit), now (lent .exit))) ⌝ }
 {
     match admit_map(d, work.len(), lent.len()) {

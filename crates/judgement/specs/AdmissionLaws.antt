@@ -9,9 +9,8 @@ use Rattle.number.specs.Number.{numberAt}
 use Rattle.number.specs.declared.Refusal.{Refusal}
 use Rattle.book.specs.Book.{ofCells, checked}
 use Rattle.book.specs.Call.{steps, admits}
-use Rattle.book.specs.CallLaws.{steps-none, holds-valid}
+use Rattle.book.specs.CallLaws.{steps-none}
 use Rattle.book.specs.Tables.{tablesOf}
-use Rattle.book.specs.TablesLaws.{Holds}
 use Rattle.book.specs.declared.Checked.{Checked}
 use Rattle.book.specs.declared.Checked.the-variants.{Valid, Refused as CheckedRefused}
 use Rattle.book.specs.declared.Sizes.{Sizes}
@@ -62,20 +61,20 @@ judge-room work stack d e =
     let (same, (room, (depth, end))) = steps-none (judgeRefusals (entries [] 0) work stack d) e in
     (ltb-false _ _ room, ltb-false _ _ depth)
 
-module _ {d : Sizes} {cells : List ℕ} (bytes : List ℕ) (work stack : ℕ) (h : Holds d cells) where
+module _ {d : Sizes} (cells bytes : List ℕ) (work stack : ℕ) (h : checked (ofCells cells) ≡ Valid d) where
   refused-list : {r : Refusal} → listIn cells bytes ≡ refused r → admits (checked (ofCells cells)) (judgeRefusals (listIn cells bytes) work stack) ≡ CheckedRefused r
   unfolding judgeRefusals
-  refused-list e = rw (holds-valid h, e)
+  refused-list e = rw (h, e)
 
   after-list : {rest : Rest} {found : Checked} → Accepted bytes (listIn cells bytes) rest → steps (Valid d) (judgeRefusals (entries [] 0) work stack d) ≡ found
       → admits (checked (ofCells cells)) (judgeRefusals (listIn cells bytes) work stack) ≡ found
   unfolding judgeRefusals
-  after-list a e = rw (holds-valid h, a .list) e
+  after-list a e = rw (h, a .list) e
 
 -- ---- the entries of a list that is admitted
-module _ {d : Sizes} {cells bytes : List ℕ} {rest : Rest} (h : Holds d cells) (a : Accepted bytes (listIn cells bytes) rest) where
+module _ {d : Sizes} (cells : List ℕ) {bytes : List ℕ} {rest : Rest} (h : checked (ofCells cells) ≡ Valid d) (a : Accepted bytes (listIn cells bytes) rest) where
   ahead : entriesAt (d .t) bytes (rest .left) (rest .at) ≡ entries (a .es) (a .end)
-  ahead = rw (a .start) (list-ahead bytes (a .es) (a .end) (d .t) (against-on cells bytes d (holds-valid h) ∙ a .list) .ahead)
+  ahead = rw (a .start) (list-ahead bytes (a .es) (a .end) (d .t) (against-on cells bytes d h ∙ a .list) .ahead)
 
   pub accepted-standing : EntriesStanding (d .t) bytes (rest .at) (rest .left)
   accepted-standing = record { es = a .es; end = a .end; ahead = ahead }
@@ -84,13 +83,13 @@ module _ {d : Sizes} {cells bytes : List ℕ} {rest : Rest} (h : Holds d cells) 
 zeroed-same : (mid stack : List ℕ) → drop 1024 mid ≡ drop 1024 stack → over (replicate 1024 0) mid ≡ over (replicate 1024 0) stack
 zeroed-same mid stack e = over-zeros 1024 mid ∙ ap (λ (l : List ℕ). replicate 1024 0 ++ l) e ∙ sym (over-zeros 1024 stack)
 
-module _ {d : Sizes} (cells bytes work stack : List ℕ) (h : Holds d cells) where
+module _ {d : Sizes} (cells bytes work stack : List ℕ) (h : checked (ofCells cells) ≡ Valid d) where
   pub judge-unlisted : {r : Refusal} → listing bytes (listIn cells bytes) ≡ ListingRefused r → Judges cells bytes work stack (Refused r, (work, stack))
-  judge-unlisted e = rw (refused-list bytes (length work) (length stack) h (list-refused bytes (listIn cells bytes) e))
+  judge-unlisted e = rw (refused-list cells bytes (length work) (length stack) h (list-refused bytes (listIn cells bytes) e))
 
   pub judge-unroomed : {rest : Rest} {r : Refusal} → Accepted bytes (listIn cells bytes) rest
       → steps (Valid d) (judgeRefusals (entries [] 0) (length work) (length stack) d) ≡ CheckedRefused r → Judges cells bytes work stack (Refused r, (work, stack))
-  judge-unroomed a e = rw (after-list bytes (length work) (length stack) h a e)
+  judge-unroomed a e = rw (after-list cells bytes (length work) (length stack) h a e)
 
   pub judge-answered : {rest : Rest} {x : Sizes} {j : Judgement} {n : ℕ} {table done left : List ℕ} (mid : List ℕ)
       → Accepted bytes (listIn cells bytes) rest → steps (Valid d) (judgeRefusals (entries [] 0) (length work) (length stack) d) ≡ Valid x
@@ -98,6 +97,6 @@ module _ {d : Sizes} (cells bytes work stack : List ℕ) (h : Holds d cells) whe
       → Beyond (room d) work table → n ≡ workCells d → done ≡ over (replicate n 0) table
       → drop 1024 mid ≡ drop 1024 stack → left ≡ over (replicate 1024 0) mid → Judges cells bytes work stack (j, (done, left))
   judge-answered {j} mid a r y b e f g k =
-      let judged : Judged (tablesOf cells) (course (tablesOf cells) bytes 0 [] (a .es)) j = rw (ahead h a) at y in
-      rw (after-list bytes (length work) (length stack) h a r, ← steps-none (judgeRefusals (entries [] 0) (length work) (length stack) d) r .0)
+      let judged : Judged (tablesOf cells) (course (tablesOf cells) bytes 0 [] (a .es)) j = rw (ahead cells h a) at y in
+      rw (after-list cells bytes (length work) (length stack) h a r, ← steps-none (judgeRefusals (entries [] 0) (length work) (length stack) d) r .0)
       (record { thing = j; right = (a .es, a .end, a .list, judged); same = rw (work-cleared d b e f, k ∙ zeroed-same mid stack g) })

@@ -1,7 +1,7 @@
 -- The judgement of a list of sentences: the entries in turn, then the states without one; and what the call answers and leaves. Assumes nothing.
-use Rattle.number.specs.Words.{Bool, true, false, cond, not, _&&_, _||_, List, [], _∷_, length, replicate, _≡_, ℕ, zero, suc, _<_, ltb, eqb}
+use Rattle.number.specs.Words.{Bool, true, false, cond, not, _&&_, List, [], _∷_, length, replicate, _≡_, ℕ, zero, suc, _<_, ltb, eqb}
 use Rattle.number.specs.Lent.{over}
-use Rattle.book.specs.{Book.ofCells, Book.checked, Call.admits, Call.Concludes, Tables.Tables, Tables.tablesOf, declared.Sizes.Sizes}
+use Rattle.book.specs.{Book.ofCells, Book.checked, Call.admits, Call.Concludes, Range.among, Tables.Tables, Tables.tablesOf, declared.Sizes.Sizes}
 use Rattle.machine.specs.{Run.runs, Run.stopOf, declared.Ending.Ending}
 use Rattle.lists.specs.{Entry.sentence, List.Listed, List.entries, List.refused, List.listIn, declared.Entry.Entry}
 use Rattle.finder.specs.{Failing.FailingPair, Failing.Decides, Finder.workCells, Finder.cleared}
@@ -24,10 +24,6 @@ isRight len (Ending.Spinning stop) = false
 -- the state that a run 'ends in'
 abbrev pub stateOf : Ending → ℕ
 stateOf e = stopOf e .state
-
-abbrev pub among : ℕ → List ℕ → Bool
-among s [] = false
-among s (q ∷ states) = eqb s q || among s states
 
 -- ---- the entries in turn
 -- a fault, or none, with the states that have an entry

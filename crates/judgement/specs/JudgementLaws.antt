@@ -12,6 +12,7 @@ use Rattle.number.specs.Lent.{over}
 use Rattle.book.specs.Book.{ofCells, checked}
 use Rattle.book.specs.Call.{admits}
 use Rattle.book.specs.CallLaws.{concludes-one}
+use Rattle.book.specs.Range.{among}
 use Rattle.book.specs.Tables.{Tables, tablesOf}
 use Rattle.machine.specs.MachineLaws.{clash}
 use Rattle.machine.specs.declared.Ending.{Ending}
@@ -23,7 +24,7 @@ use Rattle.lists.specs.declared.Entry.{Entry}
 use Rattle.finder.specs.FailingLaws.{decides-one}
 use Rattle.finder.specs.Finder.{cleared}
 use Rattle.judgement.specs.CoverageLaws.{lowest-same}
-use Rattle.judgement.specs.Judgement.{runOf, isRight, stateOf, among, Course, fault, clean, course, uncovered, Judged, faulty, faultless, judgeRefusals, JudgedIn, Judges}
+use Rattle.judgement.specs.Judgement.{runOf, isRight, stateOf, Course, fault, clean, course, uncovered, Judged, faulty, faultless, judgeRefusals, JudgedIn, Judges}
 use Rattle.judgement.specs.declared.Judgement.{Judgement}
 use Rattle.judgement.specs.declared.Judgement.the-variants.{Wrong, Repeat, Refused}
 

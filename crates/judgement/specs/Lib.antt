@@ -1,6 +1,7 @@
 pub mod Judgement
 pub mod JudgementLaws
 pub mod AdmissionLaws
+pub mod AlikeLaws
 pub mod Turns
 pub mod TurnsLaws
 pub mod EntryLaws

@@ -5,11 +5,12 @@ use mathlib.Core.Path.{_≡_}
 use Prim.Native.Nat.{ℕ, _<_}
 use lib.Dec.{eqb}
 use lib.ListN.{length, getD}
+use Rattle.book.specs.Range.{among}
 use Rattle.book.specs.Tables.{Tables}
 use Rattle.machine.specs.declared.Ending.{Ending}
 use Rattle.lists.specs.List.{Listed, entries, refused, entriesAt}
 use Rattle.lists.specs.declared.Entry.{Entry}
-use Rattle.judgement.specs.Judgement.{isRight, stateOf, among, Course, fault, clean, course}
+use Rattle.judgement.specs.Judgement.{isRight, stateOf, Course, fault, clean, course}
 use Rattle.judgement.specs.declared.Faults.{Faults}
 use Rattle.judgement.specs.declared.Faults.the-variants.{None, First}
 use Rattle.judgement.specs.declared.Judgement.the-variants.{Wrong, Repeat}

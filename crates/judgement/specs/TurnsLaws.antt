@@ -10,6 +10,7 @@ use borrow.Author.Tests.{eq-eqb, ne-eqb}
 use lib.Dec.{eqb}
 use lib.ListN.{length, getD, set, replicate, length-set, length-replicate, getD-replicate}
 use lib.Seq.{getD-set-same, getD-set-other}
+use Rattle.book.specs.Range.{among}
 use Rattle.book.specs.Tables.{Tables}
 use Rattle.machine.specs.MachineLaws.{clash}
 use Rattle.machine.specs.declared.Ending.{Ending}
@@ -20,7 +21,7 @@ use Rattle.lists.specs.ListLaws.{EntryFront, entries-front, entries-none}
 use Rattle.lists.specs.declared.Entry.{Entry}
 use Rattle.lists.specs.declared.Next.the-variants.{Found as Given, None as Nothing}
 use Rattle.lists.specs.declared.Rest.{Rest}
-use Rattle.judgement.specs.Judgement.{runOf, isRight, stateOf, among, Course, fault, clean, entered, course}
+use Rattle.judgement.specs.Judgement.{runOf, isRight, stateOf, Course, fault, clean, entered, course}
 use Rattle.judgement.specs.Turns.{Marks, weighed, EntriesStanding, courseAt}
 use Rattle.judgement.specs.declared.Judgement.{Judgement}
 use Rattle.judgement.specs.declared.Judgement.the-variants.{Wrong, Repeat}

@@ -3,7 +3,7 @@ ghost use mathlib.Core.Path.{_≡_};
 ghost use Prim.Native.Nat.{_≤_};
 ghost use lib.ListN.{length, drop};
 ghost use Rattle.book.specs.Tables.{tablesOf};
-ghost use Rattle.book.specs.TablesLaws.{Holds};
+ghost use Rattle.book.specs.TablesLaws.{Accepted, Holds};
 ghost use Rattle.layers.specs.Crossing.{room};
 ghost use Rattle.crossings.specs.Crossings.{Beyond};
 ghost use Rattle.lists.specs.List.{listIn, listing};
@@ -19,13 +19,16 @@ use book::Checked;
 use book::Sizes;
 use finder::clear;
 use finder::work_cells;
+use forms::PLAIN;
+use forms::plain_cells;
+use forms::plain_sizes;
 use lists::Listing;
 use lists::Rest;
 use lists::check_list;
 use machine::DEPTH;
 
-// The judgement of the entries that stand from an offset on.
-fn judge_from(
+// The judgement of the entries that stand from an offset on, against plain cells.
+fn judge_plain(
     cells: &[u16],
     d: Sizes,
     list: &[u8],
@@ -49,6 +52,29 @@ fn judge_from(
     }
 }
 
+// .. against a book of any form.
+fn judge_from(
+    cells: &[u16],
+    d: Sizes,
+    list: &[u8],
+    first: usize,
+    count: usize,
+    work: &mut [u16],
+    stack: &mut [u16],
+) -> Judgement
+    requires { ⌜ Accepted d (now cells) ⌝ }
+    requires { ⌜ EntriesStanding (d .t) (now list) first count ⌝ }
+    requires { ⌜ room d ≤ length (now work) ⌝ }
+    requires { ⌜ 1024 ≤ length (now stack) ⌝ }
+    ensures { λ r. ⌜ Judged (tablesOf (now (cells .entry))) (courseAt (tablesOf (now (cells .entry))) (d .t) (now (list .entry)) first count) r ⌝ }
+    ensures { λ _. ⌜ Beyond (room d) (now (work .entry)) (now (work .exit)) ⌝ }
+    ensures { λ _. ⌜ drop 1024 (now (stack .exit)) ≡ drop 1024 (now (stack .entry)) ⌝ }
+{
+    let mut plain = [0u16; PLAIN];
+    let n = plain_cells(cells, d, &mut plain);
+    judge_plain(&plain[..n], plain_sizes(d), list, first, count, work, stack)
+}
+
 // The judgement of a list that was checked: its entries are these.
 fn judge_list(
     cells: &[u16],
@@ -58,7 +84,7 @@ fn judge_list(
     work: &mut [u16],
     stack: &mut [u16],
 ) -> Judgement
-    requires { ⌜ Holds d (now cells) ⌝ }
+    requires { ⌜ Accepted d (now cells) ⌝ }
     requires { ⌜ listing (now list) (listIn (now cells) (now list)) ≡ Entries rest ⌝ }
     ensures { λ r. ⌜ Judges (now (cells .entry)) (now (list .entry)) (now (work .entry)) (now (stack .entry)) (r, (now (work .exit), now (stack .exit))) ⌝ }
 {
@@ -84,7 +110,7 @@ fn judge_against(
     work: &mut [u16],
     stack: &mut [u16],
 ) -> Judgement
-    requires { ⌜ Holds d (now cells) ⌝ }
+    requires { ⌜ Accepted d (now cells) ⌝ }
     ensures { λ r. ⌜ Judges (now (cells .entry)) (now (list .entry)) (now (work .entry)) (now (stack .entry)) (r, (now (work .exit), now (stack .exit))) ⌝ }
 {
     match check_list(cells, list) {

@@ -7,7 +7,7 @@ use lib.ListN.{length}
 use Rattle.book.specs.IndexLaws.{index-below, row-below, index-first, index-second, mul-small}
 use Rattle.book.specs.RangeLaws.{Small}
 use Rattle.book.specs.Tables.{tablesOf}
-use Rattle.book.specs.TablesLaws.{Holds, goto-some, left-side-below, length-most}
+use Rattle.book.specs.TablesLaws.{Holds, goto-some, left-side-below, length-most, lhs-inside, len-inside}
 use Rattle.book.specs.declared.Sizes.{Sizes}
 use Rattle.layers.specs.Crossing.{room, crossingRow, Fitted}
 
@@ -37,12 +37,10 @@ module _ {d : Sizes} {cells : List ℕ} (h : Holds d cells) where
 
   -- .. and what is read as a production's left side or length
   pub left-below : {p r : ℕ} → r ≡ tablesOf cells .lhs p → p < d .p → (r < d .n) × (r < 32)
-  unfolding tablesOf
-  left-below {p} e l = rw e (omega (arith, left-side-below h p l, h .small .nonterminals))
+  left-below {p} e l = rw (e, lhs-inside h p l) (omega (arith, left-side-below h p l, h .small .nonterminals))
 
   pub length-below : {p r : ℕ} → r ≡ tablesOf cells .len p → p < d .p → r ≤ 32
-  unfolding tablesOf
-  length-below {p} e l = rw e (length-most h p l)
+  length-below {p} e l = rw (e, len-inside h p l) (length-most h p l)
 
 abbrev pub RowSmall : Sizes → ℕ → ℕ → ℕ → Type 0
 RowSmall d q X a = (q * d .n ≤ 4096) × ((q * d .n + X) * d .t ≤ 132096) × (crossingRow d q X a ≤ 4228096)

@@ -33,7 +33,7 @@ Fitting (Sentence n) buffer = (n ≤ plain .limit) × (n ≤ length buffer)
 Fitting (Refused r) buffer = ⊥
 
 -- the line of one action, where it has one
-pub record ActionListed (B : Tables) (s z : ℕ) (lent : List ℕ) (at : ℕ) (left : List ℕ) (next : ℕ) : Type 0 where
+pub record ActionListed (rank : ℕ → ℕ) (B : Tables) (s z : ℕ) (lent : List ℕ) (at : ℕ) (left : List ℕ) (next : ℕ) : Type 0 where
   pub outcome : Outcome
-  pub right : B .act s z ≡ Error → Answer plain (λ a. a) B s z outcome
+  pub right : B .act s z ≡ Error → Answer plain rank B s z outcome
   pub put : Put (actionLine B s z outcome) lent at left next

@@ -10,10 +10,19 @@ use borrow.Author.Tests.{eq-eqb, ne-eqb}
 use lib.Dec.{eqb}
 use lib.ListN.{length}
 use lib.Seq.{sets}
-use Rattle.book.specs.Tables.{Tables}
+use Rattle.book.specs.Order.{placeIn}
+use Rattle.book.specs.Tables.{Tables, tablesOf, rankOf}
+use Rattle.book.specs.TablesLaws.{Accepted}
 use Rattle.book.specs.declared.Action.the-variants.{Error}
+use Rattle.book.specs.declared.Sizes.{Sizes}
+use Rattle.forms.specs.AlikeLaws.{alike-tables, form2-alike, form2-ranks}
+use Rattle.forms.specs.Forms.{inForm1, inForm2}
+use Rattle.forms.specs.FormsLaws.{withForm, plain-holds, plain-tables}
+use Rattle.forms.specs.OrderLaws.{ByRank}
+use Rattle.layers.specs.CrossingLaws.{terminals-are}
 use Rattle.walk.specs.Answer.{Outcome, Answer, Unreached}
-use Rattle.walk.specs.AnswerLaws.{answer-one}
+use Rattle.walk.specs.AnswerLaws.{answer-one, answer-rank}
+use Rattle.walk.specs.OrderLaws.{RankAlike}
 use Rattle.walk.specs.Scale.{plain}
 use Rattle.finder.specs.Failing.{isError}
 use Rattle.finder.specs.FailingLaws.{is-error}
@@ -23,16 +32,16 @@ use Rattle.text.specs.Put.{Put}
 use Rattle.text.specs.PutLaws.{put-then}
 
 -- the line of one action
-module _ {B : Tables} {s z : ℕ} {lent : List ℕ} {at : ℕ} where
-  pub action-none : isError (B .act s z) ≡ false → ActionListed B s z lent at lent at
+module _ {rank : ℕ → ℕ} {B : Tables} {s z : ℕ} {lent : List ℕ} {at : ℕ} where
+  pub action-none : isError (B .act s z) ≡ false → ActionListed rank B s z lent at lent at
   action-none e = record {
     outcome = Unreached;
     right = λ f. absurd (false≢true (sym e ∙ ap isError f));
     put = rw e (record { stored = refl; after = omega arith });
   }
 
-  pub action-line : {buffer filled left : List ℕ} {next : ℕ} → isError (B .act s z) ≡ true → PairListed B s z buffer lent at filled left next
-      → ActionListed B s z lent at left next
+  pub action-line : {buffer filled left : List ℕ} {next : ℕ} → isError (B .act s z) ≡ true → PairListed rank B s z buffer lent at filled left next
+      → ActionListed rank B s z lent at left next
   action-line e l = record { outcome = l .outcome; right = λ f. l .right; put = rw e (l .put) }
 
 -- lines of outcomes that agree where the action is error
@@ -62,15 +71,15 @@ unfolding adding
 adding-other f z o a n = rw (ne-eqb a z n)
 
 -- ---- one terminal after the other: those below z have their lines
-pub record Lines (B : Tables) (s : ℕ) (lent : List ℕ) (at : ℕ) (now : List ℕ) (next z : ℕ) : Type 0 where
+pub record Lines (rank : ℕ → ℕ) (B : Tables) (s : ℕ) (lent : List ℕ) (at : ℕ) (now : List ℕ) (next z : ℕ) : Type 0 where
   pub size : length now ≡ length lent
   pub outcome : ℕ → Outcome
-  pub right : (a : ℕ) → a < z → B .act s a ≡ Error → Answer plain (λ a. a) B s a (outcome a)
+  pub right : (a : ℕ) → a < z → B .act s a ≡ Error → Answer plain rank B s a (outcome a)
   pub put : Put (stateLines B s outcome z) lent at now next
   pub near : next ≤ at + 4096 * z
 
-module _ {B : Tables} {s : ℕ} {lent : List ℕ} {at : ℕ} where
-  pub lines-none : Lines B s lent at lent at 0
+module _ {rank : ℕ → ℕ} {B : Tables} {s : ℕ} {lent : List ℕ} {at : ℕ} where
+  pub lines-none : Lines rank B s lent at lent at 0
   unfolding stateLines
   lines-none = record {
     size = refl;
@@ -80,8 +89,8 @@ module _ {B : Tables} {s : ℕ} {lent : List ℕ} {at : ℕ} where
     near = omega arith;
   }
 
-  pub lines-more : {now left : List ℕ} {next end z : ℕ} → Lines B s lent at now next z → length left ≡ length now → ActionListed B s z now next left end
-      → end ≤ next + 4096 → Lines B s lent at left end (z + 1)
+  pub lines-more : {now left : List ℕ} {next end z : ℕ} → Lines rank B s lent at now next z → length left ≡ length now → ActionListed rank B s z now next left end
+      → end ≤ next + 4096 → Lines rank B s lent at left end (z + 1)
   unfolding stateLines
   lines-more {now} {left} {next} {end} {z} p e q h = record {
     size = e ∙ p .size;
@@ -93,19 +102,39 @@ module _ {B : Tables} {s : ℕ} {lent : List ℕ} {at : ℕ} where
     near = omega (arith, p .near);
   }
     where
-      right : (a : ℕ) → a < z + 1 → B .act s a ≡ Error → Dec (a ≡ z) → Answer plain (λ a. a) B s a (adding (p .outcome) z (q .outcome) a)
+      right : (a : ℕ) → a < z + 1 → B .act s a ≡ Error → Dec (a ≡ z) → Answer plain rank B s a (adding (p .outcome) z (q .outcome) a)
       right a l f (yes e) = rw (e, adding-here (p .outcome) z (q .outcome)) (q .right (rw e at f))
       right a l f (no n) = rw (adding-other (p .outcome) z (q .outcome) a n) (p .right a (omega arith) f)
 
-  pub lines-done : {now : List ℕ} {next z : ℕ} → Lines B s lent at now next z → z ≡ B .terminals → StateListed B s lent at now next
+  pub lines-done : {now : List ℕ} {next z : ℕ} → Lines rank B s lent at now next z → z ≡ B .terminals → StateListed rank B s lent at now next
   lines-done p e = record { outcome = p .outcome; right = λ a l f. p .right a (rw e l) f; put = rw e at (p .put) }
 
 -- at most one row of lines is right
-pub state-one : {B : Tables} {s at next next′ : ℕ} {lent left left′ : List ℕ} → StateListed B s lent at left next → StateListed B s lent at left′ next′
+pub state-one : {rank : ℕ → ℕ} {B : Tables} {s at next next′ : ℕ} {lent left left′ : List ℕ} → StateListed rank B s lent at left next → StateListed rank B s lent at left′ next′
     → (left ≡ left′) × (next ≡ next′)
-state-one {B} {s} {at} {lent = lent} x y =
+state-one {rank} {B} {s} {at} {lent = lent} x y =
     let same = lines-same B s (x .outcome) (y .outcome) (B .terminals) (λ z l e.
-    answer-one plain (λ a. a) B s z (x .outcome z) (y .outcome z) (x .right z l e) (y .right z l e)) in (
+    answer-one plain rank B s z (x .outcome z) (y .outcome z) (x .right z l e) (y .right z l e)) in (
       x .put .stored ∙ ap (λ (bytes : List ℕ). sets lent at bytes) same ∙ sym (y .put .stored),
       x .put .after ∙ ap (λ (bytes : List ℕ). at + length bytes) same ∙ sym (y .put .after),
     )
+
+-- ---- other ranks that agree on the terminals
+listed-alike : {rank rank′ : ℕ → ℕ} (B : Tables) {s at next : ℕ} {lent left : List ℕ} → RankAlike rank rank′ B → StateListed rank B s lent at left next
+    → StateListed rank′ B s lent at left next
+listed-alike B {s} f x = record { outcome = x .outcome; right = λ z l e. answer-rank plain B f s z (x .outcome z) (x .right z l e); put = x .put }
+
+counted : (d : Sizes) (cells : List ℕ) → Accepted d cells → tablesOf cells .terminals ≡ d .t
+counted d cells e = rw (← plain-tables d cells e) (terminals-are (plain-holds d cells e))
+
+module _ (d : Sizes) (cells : List ℕ) (e : Accepted d cells) {lent left : List ℕ} {s at next : ℕ} where
+  -- the lines of the plain cells, with the terminals by rank, are those of the book
+  pub book-listed : {order : List ℕ} → ByRank cells d order → StateListed (placeIn order) (tablesOf (inForm1 cells)) s lent at left next
+      → StateListed (rankOf cells) (tablesOf cells) s lent at left next
+  book-listed r x = listed-alike (tablesOf cells) (λ a some h. r .place a some (rw (counted d cells e) at h)) (rw (plain-tables d cells e) at x)
+
+  -- and those of its form 2
+  pub form2-listed : StateListed (rankOf cells) (tablesOf cells) s lent at left next → StateListed (rankOf (inForm2 cells)) (tablesOf (inForm2 cells)) s lent at left next
+  form2-listed x =
+      rw (← alike-tables d (withForm 2 d) cells (inForm2 cells) (form2-alike d cells e))
+      (listed-alike (tablesOf cells) (λ a some h. sym (form2-ranks d cells e a (rw (counted d cells e) at h))) x)

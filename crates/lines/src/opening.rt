@@ -1,7 +1,7 @@
 // What is checked before a listing, and the crossing table that serves all its lines.
 ghost use mathlib.Core.Path.{_≡_};
 ghost use Rattle.book.specs.Call.{steps};
-ghost use Rattle.book.specs.TablesLaws.{Holds};
+ghost use Rattle.book.specs.TablesLaws.{Accepted};
 ghost use Rattle.book.specs.declared.Checked.the-variants.{Valid};
 ghost use Rattle.book.specs.RangeLaws.{Small};
 ghost use Rattle.lines.specs.Prepare.{listingRefusals, Prepared};
@@ -9,6 +9,9 @@ use book::Checked;
 use book::Sizes;
 use crossings::crossings;
 use finder::work_cells;
+use forms::PLAIN;
+use forms::plain_cells;
+use forms::plain_sizes;
 use layers::open_rows;
 
 fn admit(d: Sizes, work: usize) -> Checked
@@ -19,20 +22,23 @@ fn admit(d: Sizes, work: usize) -> Checked
 }
 
 fn prepare_in(cells: &[u16], d: Sizes, work: &mut [u16]) -> Checked
-    requires { ⌜ Holds d (now cells) ⌝ }
+    requires { ⌜ Accepted d (now cells) ⌝ }
     ensures { λ r. ⌜ Prepared (now (cells .entry)) (now (work .entry)) r (now (work .exit)) ⌝ }
 {
     let found = admit(d, work.len());
     let Checked::Valid(_) = found else {
         return found;
     };
+    let mut plain = [0u16; PLAIN];
+    let n = plain_cells(cells, d, &mut plain);
+    let d = plain_sizes(d);
     let mut rows = [0u8; 4096];
-    open_rows(cells, d, &mut rows);
-    crossings(cells, d, work, &rows);
+    open_rows(&plain[..n], d, &mut rows);
+    crossings(&plain[..n], d, work, &rows);
     found
 }
 
-// Checks the book in the cells and builds its crossing table in the work cells; answers the book's sizes, or the refusal.
+// Checks the book in the cells and builds the crossing table of its plain cells in the work cells; answers the book's sizes, or the refusal.
 pub fn prepare(cells: &[u16], work: &mut [u16]) -> Checked
     ensures { λ r. ⌜ Prepared (now (cells .entry)) (now (work .entry)) r (now (work .exit)) ⌝ }
 {

@@ -1,7 +1,7 @@
 -- One entry of a list of sentences: which numbers are in range where, and what reading it at an offset gives. Assumes nothing.
 use Rattle.number.specs.Words.{_&&_, List, [], take, drop, ℕ, ltb, leb}
 use Rattle.number.specs.{Number.numberAt, declared.Number.Number}
-use Rattle.book.specs.{Book.Row, Book.admitted, Book.row, Book.byIndex, Range.faultUnless}
+use Rattle.book.specs.{Book.Row, Book.admitted, Book.row, Range.faultUnless}
 use Rattle.lists.specs.declared.{Entry.Entry, Step.Step}
 
 -- the number of a refusal for v below least, or at the limit or above; 0 for none
@@ -13,12 +13,12 @@ abbrev pub lengthFault : ℕ → ℕ
 lengthFault = outside 0 1001 8
 
 -- '7 a symbol is 0, or T or more': the same for each symbol of a sentence
-abbrev pub symbolFault : ℕ → ℕ → ℕ → ℕ
-symbolFault t i = outside 1 t 7
+abbrev pub symbolFault : ℕ → List ℕ → ℕ → ℕ
+symbolFault t seen = outside 1 t 7
 
 -- the symbols of a sentence, each a number of the list, from the offset where they begin
 abbrev pub symbolRow : ℕ → List ℕ → ℕ → ℕ → Row
-symbolRow t bytes start len = row (numberAt bytes) (byIndex (symbolFault t)) len [] start
+symbolRow t bytes start len = row (numberAt bytes) (symbolFault t) len [] start
 
 -- '11 lookahead T or more (also in a list, with its place)'
 abbrev pub lookaheadFault : ℕ → ℕ → ℕ

@@ -14,7 +14,7 @@ use Rattle.number.specs.declared.Cursor.{Cursor}
 use Rattle.number.specs.declared.Number.{Number}
 use Rattle.number.specs.declared.Number.the-variants.{Value, Refused}
 use Rattle.number.specs.declared.Refusal.{Refusal}
-use Rattle.book.specs.Book.{Row, read, refused, admitted, row, byIndex}
+use Rattle.book.specs.Book.{Row, read, refused, admitted, row}
 use Rattle.book.specs.BookLaws.{ends-read, ends-refused}
 use Rattle.book.specs.CellsLaws.{row-segment}
 use Rattle.book.specs.RowLaws.{ends, row-front, row-clean}
@@ -124,9 +124,9 @@ module _ (t : ℕ) (bytes : List ℕ) (at : ℕ) where
   unfolding entryAt
   entry-wider u h e next f =
       let p = entry-parts e next f in
-      let wide : (seen : List ℕ) (v : ℕ) → byIndex (symbolFault t) seen v ≡ 0 → byIndex (symbolFault u) seen v ≡ 0 = λ seen v z. (let b = inside 1 t 6 v z in outside-none 1 u 7 v (b .0) (omega arith)) in
+      let wide : (seen : List ℕ) (v : ℕ) → symbolFault t seen v ≡ 0 → symbolFault u seen v ≡ 0 = λ seen v z. (let b = inside 1 t 6 v z in outside-none 1 u 7 v (b .0) (omega arith)) in
       let row-of : symbolRow u bytes (e .start) (e .len) ≡ read (p .symbols) (p .last) =
-      row-refault (numberAt bytes) (byIndex (symbolFault t)) (byIndex (symbolFault u)) wide (e .len) [] (e .start) (p .symbols) (p .last) (p .spelled) in
+      row-refault (numberAt bytes) (symbolFault t) (symbolFault u) wide (e .len) [] (e .start) (p .symbols) (p .last) (p .spelled) in
       let low : lengthFault (e .len) ≡ 0 = outside-none 0 1001 8 (e .len) (omega arith) (omega (arith, p .short)) in
       let look : lookaheadFault u (e .lookahead) ≡ 0 = outside-none 0 u 11 (e .lookahead) (omega arith) (omega (arith, p .below)) in
       rw (p .begins, eq-eqb (lengthFault (e .len)) 0 low, row-of, p .looks, eq-eqb (lookaheadFault u (e .lookahead)) 0 look)
@@ -194,14 +194,14 @@ pub record Spelled (t : ℕ) (bytes : List ℕ) (e : Entry) : Type 0 where
 pub entry-spelled : (t : ℕ) (bytes : List ℕ) (at : ℕ) (e : Entry) (next : Cursor) → t ≤ 128 → entryAt t bytes at ≡ Found e next → Spelled t bytes e
 entry-spelled t bytes at e next few f =
     let p = entry-parts t bytes at e next f in
-    let one : (seen : List ℕ) (i v : ℕ) (c : Cursor) → numberAt bytes i ≡ Value v c → byIndex (symbolFault t) seen v ≡ 0
+    let one : (seen : List ℕ) (i v : ℕ) (c : Cursor) → numberAt bytes i ≡ Value v c → symbolFault t seen v ≡ 0
     → (i < length bytes) × (v ≡ getD bytes i 0) × (c .at ≡ i + 1) = λ seen i v c g z. (let (a, b) = inside 1 t 6 v z in one-byte bytes i v c (omega arith) g) in
-    let q = row-segment (numberAt bytes) (byIndex (symbolFault t)) bytes one (e .len) [] (e .start) (p .symbols) (p .last) (p .spelled) (number-within bytes at (e .len) (e .start) (p .begins)) in
+    let q = row-segment (numberAt bytes) (symbolFault t) bytes one (e .len) [] (e .start) (p .symbols) (p .last) (p .spelled) (number-within bytes at (e .len) (e .start) (p .begins)) in
     let row : symbolRow t bytes (e .start) (e .len) ≡ read (sentence bytes e) (e .start + e .len) = rw (q .part, q .after) at (p .spelled) in
     record {
       row = row;
       within = q .within;
       short = p .short;
-      symbol = λ i h. inside 1 t 6 _ (row-clean (numberAt bytes) (byIndex (symbolFault t)) (e .len) [] (e .start) (sentence bytes e) (e .start + e .len) row i h);
+      symbol = λ i h. inside 1 t 6 _ (row-clean (numberAt bytes) (symbolFault t) (e .len) [] (e .start) (sentence bytes e) (e .start + e .len) row i h);
       below = p .below;
     }

@@ -155,3 +155,8 @@ module _ (cells bytes : List ℕ) where
       by-book : (w : Row) → checked w ≡ Valid d → listOf (d .t) bytes ≡ against w bytes
       by-book (read out next) f = let sizes : sizesOf out ≡ d = cc in rw sizes
       by-book (unread r) f = absurd (let z : _≡_ {A = ℕ} 0 1 = cc in omega arith)
+
+-- a list is read against how many terminals a book has
+pub list-alike : (d e : Sizes) (cells other bytes : List ℕ) → checked (ofCells cells) ≡ Valid d → checked (ofCells other) ≡ Valid e → d .t ≡ e .t
+    → listIn cells bytes ≡ listIn other bytes
+list-alike d e cells other bytes f g same = sym (against-on cells bytes d f) ∙ ap (λ (t : ℕ). listOf t bytes) same ∙ against-on other bytes e g

@@ -12,7 +12,7 @@ use Rattle.number.specs.Number.{numberAt, refusal, value, first, second, third}
 use Rattle.number.specs.declared.Number.{Number}
 use Rattle.number.specs.declared.Number.the-variants.{Value, Refused}
 use Rattle.number.specs.declared.Refusal.{Refusal}
-use Rattle.book.specs.Book.{Row, read, refused as unread, before, admitted, single, joined, row, byIndex, partIn, partsIn, body, whole, bookIn, ofCells, cellAt}
+use Rattle.book.specs.Book.{Row, read, refused as unread, before, admitted, single, joined, row, partIn, partsIn, body, whole, bookIn, ofCells, cellAt}
 use Rattle.book.specs.BookLaws.{headIn}
 use Rattle.book.specs.Range.{fault, partLength}
 use Rattle.book.specs.Tables.{sizesOf}
@@ -96,7 +96,7 @@ module _ (source : ℕ → Number) (known : (at : ℕ) → Numbered (source at))
       (λ vs next. row-numbered fault k (seen ++ vs) next)
 
   part-numbered : (d : Sizes) (part : Part) (at : ℕ) → RowNumbered (partIn source d part at)
-  part-numbered d part at = row-numbered (byIndex (fault d part)) (partLength d part) [] at
+  part-numbered d part at = row-numbered (fault d part) (partLength d part) [] at
 
   parts-numbered : (d : Sizes) (parts : List Part) (at : ℕ) → RowNumbered (partsIn source d parts at)
   unfolding partsIn
@@ -140,7 +140,7 @@ entry-numbered t bytes at = by-length (admitted lengthFault at (numberAt bytes a
 
     by-length : (n : Number) → Numbered n → StepNumbered (afterLength t bytes n)
     by-length (Refused r) p = p
-    by-length (Value len next) p = by-symbols (next .at) len (symbolRow t bytes (next .at) len) (row-numbered (numberAt bytes) (number-numbered bytes) (byIndex (symbolFault t)) len [] (next .at))
+    by-length (Value len next) p = by-symbols (next .at) len (symbolRow t bytes (next .at) len) (row-numbered (numberAt bytes) (number-numbered bytes) (symbolFault t) len [] (next .at))
 
 -- ---- a list
 abbrev ListNumbered : Listed → Type 0

@@ -1,5 +1,5 @@
 -- Laws of what is refused before a run. Assumes nothing.
-use mathlib.Core.Path.{_≡_}
+use mathlib.Core.Path.{_≡_, refl, sym, _∙_, ap, ap₂}
 use mathlib.Core.Bool.{Bool, true, false, cond, and-false, _&&_}
 use mathlib.Core.List.{List, [], _∷_}
 use Prim.Native.Nat.{ℕ, zero, suc, _+_, _≤_, _<_}
@@ -13,15 +13,18 @@ use lib.ListN.{length, getD, drop, drop-of-length-le}
 use lib.Seq.{drop-cons}
 use Rattle.number.specs.declared.Refusal.{Refusal}
 use Rattle.book.specs.Book.{ofCells, checked}
-use Rattle.book.specs.Call.{admits}
-use Rattle.book.specs.CallLaws.{call-admitted}
-use Rattle.book.specs.Tables.{tablesOf}
+use Rattle.book.specs.Call.{steps, admits}
+use Rattle.book.specs.CallLaws.{call-admitted, steps-alike}
+use Rattle.book.specs.Tables.{Tables, tablesOf}
+use Rattle.book.specs.TablesLaws.{Accepted}
 use Rattle.book.specs.declared.Checked.{Checked}
 use Rattle.book.specs.declared.Checked.the-variants.{Valid, Refused as CheckedRefused}
 use Rattle.book.specs.declared.Sizes.{Sizes}
-use Rattle.machine.specs.Run.{runs, soundPrefix, runRefusals, running}
+use Rattle.forms.specs.AlikeLaws.{Alike, alike-tables, alike-sizes}
+use Rattle.machine.specs.Run.{runs, soundPrefix, runRefusals, stackLeft, running}
 use Rattle.machine.specs.Stack.{RanTo}
 use Rattle.machine.specs.declared.Ending.{Ending}
+use Rattle.machine.specs.declared.Ran.{Ran}
 use Rattle.machine.specs.declared.Ran.the-variants.{Ended, Refused}
 
 -- ---- the first symbol that is refused
@@ -90,3 +93,22 @@ module _ (cells w : List ℕ) (z : ℕ) (lent : List ℕ) where
       → RanTo (runs (tablesOf cells) z w 0 (0 ∷ [])) lent r out → (Ended r, out) ≡ running cells w z lent
   unfolding running
   run-admitted d e (f, g) = rw (running, e, f, g)
+
+-- ---- a run does not depend on form and ranks
+abbrev toldRun : Tables → List ℕ → ℕ → List ℕ → Checked → Ran × List ℕ
+toldRun B w z lent found =
+    elim found [ CheckedRefused r ↦ (Refused r, lent) | Valid x ↦ let (end, st) = runs B z w 0 (0 ∷ []) in (Ended end, stackLeft st lent) ]
+
+run-told : (d : Sizes) (cells w : List ℕ) (z : ℕ) (lent : List ℕ) → Accepted d cells
+    → running cells w z lent ≡ toldRun (tablesOf cells) w z lent (steps (Valid d) (runRefusals w z (length lent) d))
+unfolding running
+run-told d cells w z lent e = rw (running, e)
+
+pub run-alike : (d e : Sizes) (cells other : List ℕ) → Alike d e cells other → (w : List ℕ) (z : ℕ) (lent : List ℕ) → running cells w z lent ≡ running other w z lent
+unfolding runRefusals
+run-alike d e cells other a w z lent =
+    let refusals : runRefusals w z (length lent) d ≡ runRefusals w z (length lent) e = ap (runRefusals w z (length lent)) (alike-sizes d e cells other a) in
+    run-told d cells w z lent (a .first)
+    ∙ ap₂ (λ (B : Tables) (more : List (Bool × ℕ × ℕ)). toldRun B w z lent (steps (Valid d) more)) (alike-tables d e cells other a) refusals
+    ∙ steps-alike (runRefusals w z (length lent) e) d e (toldRun (tablesOf other) w z lent) refl
+    ∙ sym (run-told e other w z lent (a .second))

@@ -13,7 +13,7 @@ use Rattle.number.specs.Lent.{over}
 use Rattle.number.specs.LentLaws.{over-more}
 use Rattle.book.specs.Range.{allowed}
 use Rattle.book.specs.Tables.{Tables, tablesOf}
-use Rattle.book.specs.TablesLaws.{Holds, act-some, goto-some, left-side-below, in-range}
+use Rattle.book.specs.TablesLaws.{Holds, act-some, goto-some, left-side-below, lhs-inside, in-range}
 use Rattle.book.specs.declared.Action.{Action}
 use Rattle.book.specs.declared.Action.the-variants.{Shift, Reduce}
 use Rattle.book.specs.declared.Sizes.{Sizes}
@@ -120,8 +120,7 @@ unfolding allowed
 stack-reduce-below {d} h q a p e = ltb-true p (d .p) (act-some h q a (Reduce p) e (λ z. clash cc) .2)
 
 pub stack-left-below : {d : Sizes} {cells : List ℕ} → Holds d cells → (p : ℕ) → p < d .p → tablesOf cells .lhs p < d .n
-unfolding tablesOf
-stack-left-below h p l = left-side-below h p l
+stack-left-below h p l = rw (lhs-inside h p l) (left-side-below h p l)
 
 pub stack-shift-below : {d : Sizes} {cells : List ℕ} → Holds d cells → (q a s : ℕ) → tablesOf cells .act q a ≡ Shift s → s < d .s
 unfolding tablesOf

@@ -4,7 +4,7 @@ ghost use mathlib.Core.Path.{_≡_};
 ghost use Prim.Native.Nat.{_≤_, _<_};
 ghost use lib.ListN.{length};
 ghost use Rattle.book.specs.Tables.{tablesOf};
-ghost use Rattle.book.specs.TablesLaws.{Holds};
+ghost use Rattle.book.specs.TablesLaws.{Accepted, Holds};
 ghost use Rattle.machine.specs.Run.{runs, stackLeft, soundPrefix};
 ghost use Rattle.machine.specs.Stack.{stackOf, StackIn, Fed, RanTo};
 use crate::DEPTH;
@@ -14,6 +14,9 @@ use crate::Paused;
 use crate::looks::stop_at;
 use crate::reductions::reduce;
 use book::Sizes;
+use forms::PLAIN;
+use forms::plain_cells;
+use forms::plain_sizes;
 
 // Zeros above the stack.
 fn clear(stack: &mut [u16], depth: usize)
@@ -73,7 +76,7 @@ fn finish(cells: &[u16], d: Sizes, stack: &mut [u16], depth: usize, z: u16, take
     }
 }
 
-// Runs a sentence that was admitted.
+// Runs a sentence that was admitted, on plain cells.
 pub fn drive(cells: &[u16], d: Sizes, sentence: &[u8], z: u16, stack: &mut [u16]) -> Ending
     requires { ⌜ Holds d (now cells) ⌝ }
     requires { ⌜ soundPrefix (d .t) (now sentence) ≡ length (now sentence) ⌝ }
@@ -97,4 +100,17 @@ pub fn drive(cells: &[u16], d: Sizes, sentence: &[u8], z: u16, stack: &mut [u16]
         }
     }
     finish(cells, d, stack, depth, z, taken)
+}
+
+// .. on the cells of a book of any form.
+pub fn drive_book(cells: &[u16], d: Sizes, sentence: &[u8], z: u16, stack: &mut [u16]) -> Ending
+    requires { ⌜ Accepted d (now cells) ⌝ }
+    requires { ⌜ soundPrefix (d .t) (now sentence) ≡ length (now sentence) ⌝ }
+    requires { ⌜ z < d .t ⌝ }
+    requires { ⌜ 1024 ≤ length (now stack) ⌝ }
+    ensures { λ r. ⌜ RanTo (runs (tablesOf (now (cells .entry))) z (now (sentence .entry)) 0 (0 ∷ [])) (now (stack .entry)) r (now (stack .exit)) ⌝ }
+{
+    let mut plain = [0u16; PLAIN];
+    let n = plain_cells(cells, d, &mut plain);
+    drive(&plain[..n], plain_sizes(d), sentence, z, stack)
 }

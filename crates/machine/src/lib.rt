@@ -83,6 +83,6 @@ pub fn run(cells: &[u16], sentence: &[u8], lookahead: u16, stack: &mut [u16]) ->
 {
     match admission::admit(cells, sentence, lookahead, stack.len()) {
         Checked::Refused(r) => Ran::Refused(r),
-        Checked::Valid(d) => Ran::Ended(driver::drive(cells, d, sentence, lookahead, stack)),
+        Checked::Valid(d) => Ran::Ended(driver::drive_book(cells, d, sentence, lookahead, stack)),
     }
 }

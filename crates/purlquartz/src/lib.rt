@@ -7,6 +7,8 @@ mod runs;
 
 pub use books::purlquartz_check;
 pub use books::purlquartz_read;
+pub use books::purlquartz_to_form_1;
+pub use books::purlquartz_to_form_2;
 pub use books::purlquartz_write;
 pub use entries::purlquartz_check_list;
 pub use entries::purlquartz_entry;

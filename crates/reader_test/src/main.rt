@@ -78,6 +78,6 @@ fn main() {
     book::read(&BRACKET, &mut cells);
     accepted(&cells);
     refused(&cells);
-    cells[0] = 2;
-    turns::five(b"form 2", &cells, b"\x00");
+    cells[0] = 3;
+    turns::five(b"form 3", &cells, b"\x00");
 }

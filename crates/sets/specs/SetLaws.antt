@@ -1,14 +1,14 @@
 -- Laws of sets: how they grow, which bits they have, and that the count of the bits is the number of members. Assumes nothing.
-use mathlib.Core.Bool.{Bool, true, false, cond}
+use mathlib.Core.Bool.{Bool, true, false, cond, _||_}
 use mathlib.Core.Path.{_≡_, refl, sym, _∙_, ap, ap₂}
-use Prim.Native.Nat.{ℕ, zero, suc, _+_, _-_, _*_, _/_, _%_, _^_, _<_}
-use native.Mathlib.Nat.{two-pow-succ, one-mul, zero-mul, zero-add, add-zero, add-comm, mul-comm, mul-assoc, suc-mul, pow-suc, div-add-mod', div-eq-of-lt, add-mul-div-right, add-mul-mod-self-right, mod-lt, not-suc-le-zero}
+use Prim.Native.Nat.{ℕ, zero, suc, _+_, _-_, _*_, _/_, _%_, _^_, _<_, max}
+use native.Mathlib.Nat.{two-pow-succ, one-mul, zero-mul, zero-add, add-zero, add-comm, mul-comm, mul-assoc, suc-mul, pow-suc, div-add-mod', div-eq-of-lt, add-mul-div-right, add-mul-mod-self-right, mod-lt, zero-div, div-self, not-suc-le-zero}
 use native.Mathlib.Numerals.{add-one}
-use native.Mathlib.Decide.{ℕ-discrete}
+use native.Mathlib.Decide.{decLt, ℕ-discrete}
 use native.Mathlib.Omega.{arith}
 use borrow.Author.Tests.{eq-eqb, ne-eqb}
-use lib.Bits.{bitOr, or-shifted-r, or-block, or-step, or-zero-r}
-use lib.Pow.{pow-pos, pow-add}
+use lib.Bits.{bitOr, or-shifted-r, or-block, or-step, or-shr, or-zero-r}
+use lib.Pow.{pow-pos, pow-lt, pow-add}
 use lib.Dec.{eqb}
 use lib.Count.{ones, ones-cat}
 use Rattle.sets.specs.Set.{setOf, countOf}
@@ -113,3 +113,32 @@ set-member P (suc k) z h = rw (one-of (P k) (2 ^ k)) (go (ℕ-discrete z k) (λ 
         let same : (cond (P k) 1 0 * 2 ^ k + setOf P k) / 2 ^ z % 2 ≡ setOf P k / 2 ^ z % 2 =
         ap (λ (x : ℕ). (cond (P k) 1 0 * 2 ^ x + setOf P k) / 2 ^ z % 2) m ∙ above (cond (P k) 1 0) (k - suc z) z (setOf P k) in
         ap (λ (x : ℕ). eqb x 1) same ∙ r (omega arith)
+
+-- ---- one more member, wherever it stands
+pub member-none : (z : ℕ) → member 0 z ≡ false
+member-none z = rw (zero-div (2 ^ z))
+
+-- a number of two values, with the greater of it and none or one
+larger : (x : ℕ) → x < 2 → (b : Bool) → eqb (max x (cond b 1 0)) 1 ≡ (b || eqb x 1)
+larger zero h true = refl
+larger zero h false = refl
+larger (suc zero) h true = refl
+larger (suc zero) h false = refl
+larger (suc (suc x)) h b = absurd (omega arith)
+
+-- bit w of the set of z alone
+alone : (z w : ℕ) → 2 ^ z / 2 ^ w % 2 ≡ cond (eqb w z) 1 0
+alone z w = go (ℕ-discrete w z) (decLt w z)
+  where
+    go : Dec (w ≡ z) → Dec (w < z) → 2 ^ z / 2 ^ w % 2 ≡ cond (eqb w z) 1 0
+    go (yes e) d = rw (e, div-self (pow-pos z), eq-eqb z z refl)
+    go (no n) (yes l) =
+        let m : z ≡ w + suc (z - suc w) = omega arith in
+        let bit : 2 ^ (w + suc (z - suc w)) / 2 ^ w % 2 ≡ 0 = rw (one-mul, add-zero, zero-div (2 ^ w)) at (above 1 (z - suc w) w 0) in
+        rw (ne-eqb w z n) (ap (λ (k : ℕ). 2 ^ k / 2 ^ w % 2) m ∙ bit)
+    go (no n) (no l) = rw (ne-eqb w z n, div-eq-of-lt (pow-lt {i = z} {j = w} (omega arith)))
+
+pub member-put : (n z w : ℕ) → member (bitOr n (2 ^ z)) w ≡ (eqb w z || member n w)
+member-put n z w =
+    let odd : (a b : ℕ) → bitOr a b % 2 ≡ max (a % 2) (b % 2) = λ a b. rw (or-step a b) (omega arith) in
+    rw (or-shr n (2 ^ z) w, odd, alone z w) (larger (n / 2 ^ w % 2) (mod-lt (n / 2 ^ w) (omega arith)) (eqb w z))

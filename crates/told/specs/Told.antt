@@ -21,10 +21,10 @@ abbrev pub toldWritten : Written → List ℕ
 toldWritten (Written.Refused r) = toldRefusal r
 toldWritten (Written.Count n) = eight (1 ∷ n ∷ [])
 
--- the sizes of a valid book: T, N, S, P
+-- the sizes of a valid book: T, N, S, P; then its form
 abbrev pub toldChecked : Checked → List ℕ
 toldChecked (Checked.Refused r) = toldRefusal r
-toldChecked (Checked.Valid d) = eight (1 ∷ d .t ∷ d .n ∷ d .s ∷ d .p ∷ [])
+toldChecked (Checked.Valid d) = eight (1 ∷ d .t ∷ d .n ∷ d .s ∷ d .p ∷ d .form ∷ [])
 
 -- 'It ends as accepted, error, broken, passed, deep or spinning': the kind
 abbrev pub kindOf : Ending → ℕ

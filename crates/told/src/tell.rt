@@ -42,7 +42,16 @@ pub fn tell_checked(c: Checked) -> [u64; 8]
 {
     match c {
         Checked::Refused(r) => tell_refusal(r),
-        Checked::Valid(d) => [1, d.t as u64, d.n as u64, d.s as u64, d.p as u64, 0, 0, 0],
+        Checked::Valid(d) => [
+            1,
+            d.t as u64,
+            d.n as u64,
+            d.s as u64,
+            d.p as u64,
+            d.form as u64,
+            0,
+            0,
+        ],
     }
 }
 

@@ -4,6 +4,8 @@
 //   read n              bytes to n cells
 //   check
 //   write n             cells to n bytes
+//   to_form_1 n         cells to n cells
+//   to_form_2 n
 //   run z n             the bytes with lookahead z, and n stack cells
 //   find s z n m        one pair, n work cells and m bytes
 //   map n m             n work cells and m cells
@@ -28,6 +30,8 @@ use purlquartz::purlquartz_next_entry;
 use purlquartz::purlquartz_read;
 use purlquartz::purlquartz_run;
 use purlquartz::purlquartz_sets;
+use purlquartz::purlquartz_to_form_1;
+use purlquartz::purlquartz_to_form_2;
 use purlquartz::purlquartz_write;
 
 // What lent cells and masks hold, and lent bytes; no call writes it.
@@ -111,6 +115,32 @@ fn write(args: &[u32], cells: &[u16]) {
     let mut bytes = free_bytes();
     let n = room(args, 0, BYTES);
     write_to(cells, &mut bytes[..n]);
+}
+
+fn to_form_1_in(cells: &[u16], lent: &mut [u16]) {
+    let mut answer = [0u64; 8];
+    purlquartz_to_form_1(cells, lent, &mut answer);
+    say::answer(b"to_form_1", &answer);
+    say::cells(lent);
+}
+
+fn to_form_1(args: &[u32], cells: &[u16]) {
+    let mut lent = free_cells();
+    let n = room(args, 0, CELLS);
+    to_form_1_in(cells, &mut lent[..n]);
+}
+
+fn to_form_2_in(cells: &[u16], lent: &mut [u16]) {
+    let mut answer = [0u64; 8];
+    purlquartz_to_form_2(cells, lent, &mut answer);
+    say::answer(b"to_form_2", &answer);
+    say::cells(lent);
+}
+
+fn to_form_2(args: &[u32], cells: &[u16]) {
+    let mut lent = free_cells();
+    let n = room(args, 0, CELLS);
+    to_form_2_in(cells, &mut lent[..n]);
 }
 
 fn run_in(cells: &[u16], sentence: &[u8], lookahead: u16, stack: &mut [u16]) {
@@ -213,7 +243,7 @@ fn judge(args: &[u32], cells: &[u16], list: &[u8]) {
     judge_in(cells, list, &mut work[..n], &mut stack[..m]);
 }
 
-// The calls on a book. Answers whether the word is one of them.
+// The calls that read, check, write and convert a book. Answers whether the word is one of them.
 fn on_book(word: &[u8], args: &[u32], cells: &[u16], bytes: &[u8]) -> bool {
     if check::same(word, b"read") {
         read(args, bytes);
@@ -227,8 +257,21 @@ fn on_book(word: &[u8], args: &[u32], cells: &[u16], bytes: &[u8]) -> bool {
         write(args, cells);
         return true;
     }
+    if check::same(word, b"to_form_1") {
+        to_form_1(args, cells);
+        return true;
+    }
+    if check::same(word, b"to_form_2") {
+        to_form_2(args, cells);
+        return true;
+    }
+    false
+}
+
+// The calls that run the machine of a book or find what is reached.
+fn on_machine(word: &[u8], args: &[u32], cells: &[u16], sentence: &[u8]) -> bool {
     if check::same(word, b"run") {
-        run(args, cells, bytes);
+        run(args, cells, sentence);
         return true;
     }
     if check::same(word, b"find") {
@@ -268,6 +311,9 @@ fn on_list(word: &[u8], args: &[u32], cells: &[u16], list: &[u8]) -> bool {
 
 pub fn call(word: &[u8], args: &[u32], cells: &[u16], bytes: &[u8]) {
     if on_book(word, args, cells, bytes) {
+        trial::text(b"\n");
+    }
+    if on_machine(word, args, cells, bytes) {
         trial::text(b"\n");
     }
     if on_list(word, args, cells, bytes) {

@@ -15,7 +15,7 @@ use Rattle.number.specs.declared.Number.the-variants.{Value, Refused}
 use Rattle.book.specs.Action.{actionOf}
 use Rattle.book.specs.Book.{bookIn, row, partsIn, cellAt, ofBytes, ofCells, checked}
 use Rattle.book.specs.Range.{fault, faultNumber, fits, allowed}
-use Rattle.book.specs.Tables.{Tables, sizesOf, tablesOf}
+use Rattle.book.specs.Tables.{Tables, sizesOf, tablesOf, rankOf}
 use Rattle.book.specs.TablesLaws.{act-range}
 use Rattle.book.specs.declared.Action.{Action}
 use Rattle.book.specs.declared.Action.the-variants.{Error, Accept, Shift, Reduce}
@@ -29,7 +29,7 @@ use Rattle.walk.specs.Scale.{plain}
 use Rattle.walk.specs.Answer.{Unreached, Long, Sentence, Answer}
 use Rattle.walk.specs.Shortest.{Shorter, Shortest, Before, differs, agrees}
 use Rattle.walk.specs.ShortestLaws.{answer-shortest}
-use Rattle.walk.specs.Stars.{Line, number, pair, bracket, double, stars, LineHolds, All}
+use Rattle.walk.specs.Stars.{Line, number, pair, bracket, double, doubleRanked, stars, LineHolds, All}
 
 both : (a b : Bool) → (a && b) ≡ true → (a ≡ true) × (b ≡ true)
 both true b e = (refl, e)
@@ -70,22 +70,23 @@ every-all {B} (suc n) P e (more {a} h i t) l =
     every-all n (λ v. P (a ∷ v)) (upto-all (B .terminals) (λ a. every (B .terminals) n (λ v. P (a ∷ v))) e a i) t (omega arith)
 
 -- v is not earlier than w
-later : List ℕ → List ℕ → Bool
-later [] v = true
-later (a ∷ w) [] = false
-later (a ∷ w) (b ∷ v) = ltb a b || (eqb a b && later w v)
+module _ (rank : ℕ → ℕ) where
+  later : List ℕ → List ℕ → Bool
+  later [] v = true
+  later (a ∷ w) [] = false
+  later (a ∷ w) (b ∷ v) = ltb (rank a) (rank b) || (eqb a b && later w v)
 
-later-before : (w v : List ℕ) → later w v ≡ true → length w ≡ length v → v ≢ w → Before (λ a. a) w v
-unfolding later
-later-before [] [] e l n = absurd (n refl)
-later-before [] (b ∷ v) e l n = absurd (omega arith)
-later-before (a ∷ w) [] e l n = absurd (omega arith)
-later-before (a ∷ w) (b ∷ v) e l n = ⊎-elim
-    (λ h. differs (ltb-true a b h) (omega arith))
-    (λ h. let (i, j) = both (eqb a b) (later w v) h in
-    let k : b ≡ a = sym (eqb-true a b i) in
-    rw k (agrees (later-before w v j (omega arith) (λ m. n (cc)))))
-    (either (ltb a b) (eqb a b && later w v) e)
+  later-before : (w v : List ℕ) → later w v ≡ true → length w ≡ length v → v ≢ w → Before rank w v
+  unfolding later
+  later-before [] [] e l n = absurd (n refl)
+  later-before [] (b ∷ v) e l n = absurd (omega arith)
+  later-before (a ∷ w) [] e l n = absurd (omega arith)
+  later-before (a ∷ w) (b ∷ v) e l n = ⊎-elim
+      (λ h. differs (ltb-true (rank a) (rank b) h) (omega arith))
+      (λ h. let (i, j) = both (eqb a b) (later w v) h in
+      let k : b ≡ a = sym (eqb-true a b i) in
+      rw k (agrees (later-before w v j (omega arith) (λ m. n (cc)))))
+      (either (ltb (rank a) (rank b)) (eqb a b && later w v) e)
 
 -- ---- running the machine on one word
 -- the run from a stack and an input comes to s on top with z alone to come
@@ -190,14 +191,14 @@ module _ (B : Tables) (s z : ℕ) where
   missed-unreached e r = misses-hit B s z 64 e (r .run)
 
   -- w reaches the pair, no shorter word does, and none of its length that is earlier
-  sentence? : List ℕ → Bool
-  sentence? w =
+  sentence? : (ℕ → ℕ) → List ℕ → Bool
+  sentence? rank w =
       terminals? (B .terminals) w && (leb (length w) 1000 && (hits B s z 64 (0 ∷ []) (w ++ (z ∷ []))
-      && (upto (length w) (λ n. every (B .terminals) n missed) && every (B .terminals) (length w) (λ v. later w v || missed v))))
+      && (upto (length w) (λ n. every (B .terminals) n missed) && every (B .terminals) (length w) (λ v. later rank w v || missed v))))
 
-  sentence-answer : (w : List ℕ) → sentence? w ≡ true → Shortest (λ a. a) (λ v. Reaches B v z s) (Sentence w)
+  sentence-answer : (rank : ℕ → ℕ) (w : List ℕ) → sentence? rank w ≡ true → Shortest rank (λ v. Reaches B v z s) (Sentence w)
   unfolding sentence?
-  sentence-answer w e =
+  sentence-answer rank w e =
       let (a, e₁) = both _ _ e in
       let (b, e₂) = both _ _ e₁ in
       let (c, e₃) = both _ _ e₂ in
@@ -205,16 +206,16 @@ module _ (B : Tables) (s z : ℕ) where
       let (below, r) = hits-hit B s z 64 (0 ∷ []) (w ++ (z ∷ [])) c in
       (record { terminals = terminals-all w a; below = below; run = r }, leb-true (length w) 1000 b, λ v x n. best d f v x n (decLt (length v) (length w)) (decLt (length w) (length v)))
     where
-      best : upto (length w) (λ n. every (B .terminals) n missed) ≡ true → every (B .terminals) (length w) (λ v. later w v || missed v) ≡ true
-          → (v : List ℕ) → Reaches B v z s → v ≢ w → Dec (length v < length w) → Dec (length w < length v) → Shorter (λ a. a) w v
+      best : upto (length w) (λ n. every (B .terminals) n missed) ≡ true → every (B .terminals) (length w) (λ v. later rank w v || missed v) ≡ true
+          → (v : List ℕ) → Reaches B v z s → v ≢ w → Dec (length v < length w) → Dec (length w < length v) → Shorter rank w v
       best d f v x n (yes h) i = absurd (missed-unreached (every-all (length v) missed (upto-all (length w) _ d (length v) h) (x .terminals) refl) x)
       best d f v x n (no h) (yes i) = inl i
       best d f v x n (no h) (no i) =
           let l : length w ≡ length v = omega arith in
           ⊎-elim
-          (λ j. inr (later-before w v j l n))
+          (λ j. inr (later-before rank w v j l n))
           (λ j. absurd (missed-unreached j x))
-          (either (later w v) (missed v) (every-all (length w) (λ v. later w v || missed v) f (x .terminals) (sym l)))
+          (either (later rank w v) (missed v) (every-all (length w) (λ v. later rank w v || missed v) f (x .terminals) (sym l)))
 
 shifts-to : ℕ → Action → Bool
 shifts-to s Error = false
@@ -262,7 +263,7 @@ no-walk cells h i j here = h refl
 no-walk {s} cells h i j (shifted {t} {q₁} z r f) = no-shift cells s j q₁ t f
 no-walk {z} cells h i j (crossed {q₂} {p} r r′ f l g) = no-reduce cells z i q₂ p f
 
-unreached-answer : (cells : List ℕ) (s z : ℕ) → unreached? (tablesOf cells) s z ≡ true → Answer plain (λ a. a) (tablesOf cells) s z Unreached
+unreached-answer : (cells : List ℕ) (s z : ℕ) → unreached? (tablesOf cells) s z ≡ true → Answer plain (rankOf cells) (tablesOf cells) s z Unreached
 unfolding unreached?
 unreached-answer cells s z e w r =
     let B = tablesOf cells in
@@ -293,14 +294,14 @@ right? : Line → Bool
 right? (number bytes r) = same? (numberAt bytes 0) r
 right? (pair cells s z Unreached) = unreached? (tablesOf cells) s z
 right? (pair cells s z Long) = false
-right? (pair cells s z (Sentence w)) = sentence? (tablesOf cells) s z w
+right? (pair cells s z (Sentence w)) = sentence? (tablesOf cells) s z (rankOf cells) w
 
 right-holds : (l : Line) → right? l ≡ true → LineHolds l
 unfolding right?
 right-holds (number bytes r) e = same (numberAt bytes 0) r e
 right-holds (pair cells s z Unreached) e = unreached-answer cells s z e
 right-holds (pair cells s z Long) e = absurd (false≢true e)
-right-holds (pair cells s z (Sentence w)) e = answer-shortest (λ a. a) (tablesOf cells) s z (Sentence w) .1 (sentence-answer (tablesOf cells) s z w e)
+right-holds (pair cells s z (Sentence w)) e = answer-shortest (rankOf cells) (tablesOf cells) s z (Sentence w) .1 (sentence-answer (tablesOf cells) s z (rankOf cells) w e)
 
 all-right? : List Line → Bool
 all-right? [] = true
@@ -311,19 +312,23 @@ unfolding all-right?
 all-right [] e = tt
 all-right (l ∷ ls) e = let (i, j) = both (right? l) (all-right? ls) e in (right-holds l i, all-right ls j)
 
--- every line marked ★ holds
+-- every line holds
 pub stars-hold : All stars
-unfolding stars bracket double all-right? right? same? numberAt first second third sentence? unreached? unreduced? unshifted? tablesOf sizesOf actionOf next missed hits misses follow after meets terminals? upto every later shifts-to reduces?
+unfolding stars bracket double doubleRanked all-right? right? same? numberAt first second third sentence? unreached? unreduced? unshifted? tablesOf rankOf sizesOf actionOf next missed hits misses follow after meets terminals? upto every later shifts-to reduces?
 stars-hold = all-right stars refl
 
--- ---- the two small books are books, in cells and, as each number is below 128, in bytes
-abbrev pub Accepted : List ℕ → Sizes → Type 0
-Accepted book d = (checked (ofCells book) ≡ Valid d) × (checked (ofBytes book) ≡ Valid d)
+-- ---- the small books are books, in cells and, as each number is below 128, in bytes
+abbrev pub Both : List ℕ → Sizes → Type 0
+Both book d = (checked (ofCells book) ≡ Valid d) × (checked (ofBytes book) ≡ Valid d)
 
-pub bracket-accepted : Accepted bracket (record { t = 4; n = 1; s = 6; p = 2 }) × (length bracket ≡ 39)
+pub bracket-accepted : Both bracket (record { form = 1; t = 4; n = 1; s = 6; p = 2 }) × (length bracket ≡ 39)
 unfolding bracket ofCells ofBytes bookIn row partsIn cellAt numberAt first fault faultNumber fits allowed actionOf sizesOf
 bracket-accepted = ((refl, refl), refl)
 
-pub double-accepted : Accepted double (record { t = 3; n = 2; s = 8; p = 4 }) × (length double ≡ 53)
+pub double-accepted : Both double (record { form = 1; t = 3; n = 2; s = 8; p = 4 }) × (length double ≡ 53)
 unfolding double ofCells ofBytes bookIn row partsIn cellAt numberAt first fault faultNumber fits allowed actionOf sizesOf
 double-accepted = ((refl, refl), refl)
+
+pub ranked-accepted : Both doubleRanked (record { form = 2; t = 3; n = 2; s = 8; p = 4 }) × (length doubleRanked ≡ 56)
+unfolding doubleRanked ofCells ofBytes bookIn row partsIn cellAt numberAt first fault faultNumber fits allowed actionOf sizesOf
+ranked-accepted = ((refl, refl), refl)

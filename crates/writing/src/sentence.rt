@@ -2,6 +2,7 @@
 ghost use mathlib.Core.Path.{_≡_};
 ghost use Prim.Native.Nat.{_+_, _*_, _≤_, _<_};
 ghost use lib.ListN.{length, getD};
+ghost use Rattle.book.specs.Order.{placeIn, Arranged};
 ghost use Rattle.book.specs.Tables.{tablesOf};
 ghost use Rattle.book.specs.TablesLaws.{Holds};
 ghost use Rattle.machine.specs.Machine.{Reaches};
@@ -25,6 +26,7 @@ fn write_over(
     table: &[u16],
     rows: &[u8; 4096],
     togo: &[u16; 4096],
+    order: &[u8; 32],
     s: usize,
     z: usize,
     n: usize,
@@ -34,9 +36,10 @@ fn write_over(
     requires { ⌜ Holds d (now cells) ⌝ }
     requires { ⌜ CrossingTable plain d (now cells) (now table) × OpenRows d (tablesOf (now cells)) (now rows) ⌝ }
     requires { ⌜ ToPair plain (tablesOf (now cells)) (claimIn d (now table)) s z (entryIn (now togo)) × Exact plain (λ w. Reaches (tablesOf (now cells)) w z s) n ⌝ }
+    requires { ⌜ Arranged (d .t) (now order) ⌝ }
     requires { ⌜ (z < d .t) × (n ≤ plain .limit) × (n ≤ length (now buffer)) ⌝ }
     requires { ⌜ (1 + 128 * n ≤ length (now stack)) × (getD (now stack) 0 0 ≡ 0) ⌝ }
-    ensures { λ _. ⌜ Chose plain (λ a. a) (λ w. Reaches (tablesOf (now (cells .entry))) w z s) n (now (buffer .entry)) (now (buffer .exit)) ⌝ }
+    ensures { λ _. ⌜ Chose plain (placeIn (now (order .entry))) (λ w. Reaches (tablesOf (now (cells .entry))) w z s) n (now (buffer .entry)) (now (buffer .exit)) ⌝ }
 {
     let mut pending = [0u8; 4096];
     mark_all(cells, d, false, &mut pending);
@@ -54,6 +57,7 @@ fn write_over(
         rows,
         togo,
         &pending,
+        order,
         s,
         z,
         n,
@@ -91,6 +95,7 @@ pub fn write_sentence(
     table: &[u16],
     rows: &[u8; 4096],
     togo: &[u16; 4096],
+    order: &[u8; 32],
     s: usize,
     z: usize,
     n: usize,
@@ -99,14 +104,39 @@ pub fn write_sentence(
     requires { ⌜ Holds d (now cells) ⌝ }
     requires { ⌜ CrossingTable plain d (now cells) (now table) × OpenRows d (tablesOf (now cells)) (now rows) ⌝ }
     requires { ⌜ ToPair plain (tablesOf (now cells)) (claimIn d (now table)) s z (entryIn (now togo)) × Exact plain (λ w. Reaches (tablesOf (now cells)) w z s) n ⌝ }
+    requires { ⌜ Arranged (d .t) (now order) ⌝ }
     requires { ⌜ (z < d .t) × (n ≤ plain .limit) × (n ≤ length (now buffer)) ⌝ }
-    ensures { λ _. ⌜ Chose plain (λ a. a) (λ w. Reaches (tablesOf (now (cells .entry))) w z s) n (now (buffer .entry)) (now (buffer .exit)) ⌝ }
+    ensures { λ _. ⌜ Chose plain (placeIn (now (order .entry))) (λ w. Reaches (tablesOf (now (cells .entry))) w z s) n (now (buffer .entry)) (now (buffer .exit)) ⌝ }
 {
     if n <= 32 {
         let mut stack = short_stack();
-        write_over(cells, d, table, rows, togo, s, z, n, &mut stack, buffer);
+        write_over(
+            cells,
+            d,
+            table,
+            rows,
+            togo,
+            order,
+            s,
+            z,
+            n,
+            &mut stack,
+            buffer,
+        );
         return;
     }
     let mut stack = long_stack();
-    write_over(cells, d, table, rows, togo, s, z, n, &mut stack, buffer);
+    write_over(
+        cells,
+        d,
+        table,
+        rows,
+        togo,
+        order,
+        s,
+        z,
+        n,
+        &mut stack,
+        buffer,
+    );
 }

@@ -21,6 +21,7 @@ use independent::book::Book;
 use measure::{ratio, shown, Subject};
 use purlquartz::Sizes;
 use random::books::{wild, Taste};
+use random::ranks::ranked;
 use random::Random;
 use std::{env, fs};
 
@@ -49,6 +50,12 @@ fn shipped(name: &str) -> Book {
     Book::from_bytes(&fs::read(file).expect("the book is shipped")).expect("a good book")
 }
 
+/// The book in form 2 with the highest terminal first.
+fn turned_round(name: &str) -> Book {
+    let book = shipped(name);
+    ranked(&book, (0..book.sizes.terminals).rev().collect())
+}
+
 /// A book with sentences of up to 512 symbols: each nonterminal is the one below it, twice.
 fn doubling() -> Book {
     let mut text = "terminals: a\n".to_string();
@@ -65,6 +72,7 @@ fn doubling() -> Book {
 fn dense(seed: u64, terminals: u16, nonterminals: u16, states: u16) -> Book {
     let taste = Taste {
         sizes: Sizes {
+            form: 1,
             terminals,
             nonterminals,
             states,
@@ -80,12 +88,14 @@ fn dense(seed: u64, terminals: u16, nonterminals: u16, states: u16) -> Book {
 
 fn print_books(quick: bool) {
     println!(
-        "| book | T | N | S | P | check | map | one pair | failing pairs | all of them | judge |"
+        "| book | form | T | N | S | P | check | to form 2 | to form 1 \
+         | map | one pair | failing pairs | all of them | judge |"
     );
-    println!("|---|---|---|---|---|---|---|---|---|---|---|");
+    println!("|---|---|---|---|---|---|---|---|---|---|---|---|---|---|");
     for name in SHIPPED {
         print_book(name, &shipped(name));
     }
+    print_book("program, ranks turned round", &turned_round("program"));
     print_book("doubling", &doubling());
     let sizes = [(4, 4, 16), (8, 8, 32), (16, 16, 64), (32, 32, 128)];
     for (terminals, nonterminals, states) in sizes {
@@ -102,6 +112,8 @@ fn print_book(name: &str, book: &Book) {
     let failing = library.failing.len();
     let cells = [
         both_times(library.check(), independent.check()),
+        both_times(library.to_form(2), independent.to_form(2)),
+        both_times(library.to_form(1), independent.to_form(1)),
         both_times(library.map(), independent.map()),
         both_times(library.find(pair), independent.find(pair)),
         failing.to_string(),
@@ -110,7 +122,8 @@ fn print_book(name: &str, book: &Book) {
     ];
     let sizes = book.sizes;
     println!(
-        "| {name} | {} | {} | {} | {} | {} |",
+        "| {name} | {} | {} | {} | {} | {} | {} |",
+        sizes.form,
         sizes.terminals,
         sizes.nonterminals,
         sizes.states,

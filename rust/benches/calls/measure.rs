@@ -4,8 +4,9 @@ use crate::both::Calls;
 use crate::independent::book::{Action, Book};
 use crate::independent::calls::map_of;
 use crate::random::lists::{covering, encode_list};
+use crate::random::ranks::unranked;
 use crate::random::Random;
-use purlquartz::{LONG, SENTENCE_BYTES, STACK_CELLS, UNREACHED};
+use purlquartz::{LONG, MOST_CELLS, SENTENCE_BYTES, STACK_CELLS, UNREACHED};
 use std::hint::black_box;
 use std::time::{Duration, Instant};
 
@@ -51,6 +52,8 @@ fn timed(mut call: impl FnMut()) -> Time {
 pub struct Subject<'a> {
     calls: &'a Calls,
     cells: Vec<u16>,
+    /// In form 1 and in form 2, its ranks forgotten.
+    unranked: [Vec<u16>; 2],
     map: Vec<u16>,
     work_cells: usize,
     list: Vec<u8>,
@@ -70,6 +73,7 @@ impl<'a> Subject<'a> {
         Subject {
             calls,
             cells: book.cells(),
+            unranked: [1, 2].map(|form| unranked(book).in_form(form).cells()),
             work_cells: book.sizes.work_cells(),
             list: encode_list(&covering(&mut Random::new(1), book)),
             failing: pairs.collect(),
@@ -93,6 +97,21 @@ impl<'a> Subject<'a> {
         timed(|| {
             black_box((self.calls.check)(&self.cells)).expect("a good book");
         })
+    }
+
+    /// The converter to form 1 or 2, of the other form.
+    pub fn to_form(&self, form: u16) -> Time {
+        let [form_1, form_2] = &self.unranked;
+        let (given, wanted) = match form {
+            1 => (form_2, form_1),
+            _ => (form_1, form_2),
+        };
+        let mut lent = vec![0; MOST_CELLS];
+        let time = timed(|| {
+            black_box(self.calls.to_form(form)(given, &mut lent)).expect("a book");
+        });
+        assert_eq!(lent[..wanted.len()], wanted[..], "a wrong book has no time");
+        time
     }
 
     pub fn map(&self) -> Time {

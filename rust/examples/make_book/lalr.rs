@@ -1,4 +1,4 @@
-//! LALR(1) tables of a grammar, as the cells of a book.
+//! LALR(1) tables of a grammar, as the cells of a book of form 1.
 //!
 //! States are the sets of kernel items of the LR(0) automaton, numbered breadth first, terminals
 //! before nonterminals. Each kernel item has a set of lookaheads, one bit for each terminal, which

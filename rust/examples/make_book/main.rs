@@ -1,15 +1,14 @@
 //! Makes a book from a grammar: `make_book GRAMMAR BOOK` reads the grammar's text, writes the book
-//! of its LALR(1) tables, and prints the sizes and the terminals by number.
+//! of its LALR(1) tables in form 1, and prints the form, the sizes and the terminals by number.
 
 mod grammar;
 mod lalr;
 
 use grammar::Grammar;
+use lalr::Tables;
+use purlquartz::MOST_BYTES;
 use std::process::ExitCode;
 use std::{env, fs};
-
-/// The longest book has 16,647 bytes.
-const MOST_BYTES: usize = 16_647;
 
 fn main() -> ExitCode {
     let arguments: Vec<String> = env::args().skip(1).collect();
@@ -37,15 +36,17 @@ fn make(grammar_file: &str, book_file: &str) -> Result<(), String> {
     let written = purlquartz::write(&tables.cells, &mut bytes);
     let count = written.map_err(|refusal| format!("{refusal:?}"))?;
     fs::write(book_file, &bytes[..count]).map_err(|error| error.to_string())?;
-    report(&grammar, tables.states, count);
+    report(&grammar, &tables, count);
     Ok(())
 }
 
-fn report(grammar: &Grammar, states: usize, bytes: usize) {
+fn report(grammar: &Grammar, tables: &Tables, bytes: usize) {
     println!(
-        "T {} N {} S {states} P {}, {bytes} bytes",
+        "form {} T {} N {} S {} P {}, {bytes} bytes",
+        tables.cells[0],
         grammar.terminals.len(),
         grammar.nonterminals.len(),
+        tables.states,
         grammar.rules.len()
     );
     for (number, name) in grammar.terminals.iter().enumerate() {

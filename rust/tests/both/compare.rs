@@ -53,6 +53,17 @@ pub fn check(subject: &Calls, cells: &[u16]) -> Outcome {
     same("check", made(subject), made(&INDEPENDENT))
 }
 
+/// The converter to form 1 or 2.
+pub fn to_form(subject: &Calls, form: u16, cells: &[u16], lent: &Lent<u16>) -> Outcome {
+    let made = |calls: &Calls| {
+        let (input, mut lent) = (Lent::holding(cells), lent.clone());
+        let answer = calls.to_form(form)(input.part(), lent.part_mut());
+        (answer, (input, lent))
+    };
+    let call = format!("to_form_{form}");
+    same(&call, made(subject), made(&INDEPENDENT))
+}
+
 pub fn write(subject: &Calls, cells: &[u16], bytes: &Lent<u8>) -> Outcome {
     let made = |calls: &Calls| {
         let (input, mut bytes) = (Lent::holding(cells), bytes.clone());

@@ -8,11 +8,15 @@ use crate::independent::calls;
 use purlquartz::*;
 
 type Refused<T> = Result<T, Refusal>;
+/// A call that writes the book of some cells to others, in one of the forms.
+pub type Converter = fn(&[u16], &mut [u16]) -> Refused<usize>;
 
 #[allow(clippy::type_complexity)] // each type is spelled as its call's
 pub struct Calls {
     pub read: fn(&[u8], &mut [u16]) -> Refused<usize>,
     pub check: fn(&[u16]) -> Refused<Sizes>,
+    pub to_form_1: Converter,
+    pub to_form_2: Converter,
     pub write: fn(&[u16], &mut [u8]) -> Refused<usize>,
     pub run: fn(&[u16], &[u8], u16, &mut [u16]) -> Refused<Ending>,
     pub find: fn(&[u16], u16, u16, &mut [u16], &mut [u8]) -> Refused<Found>,
@@ -23,6 +27,30 @@ pub struct Calls {
     pub entries: fn(&[u16], &[u8]) -> Refused<Vec<Entry>>,
     pub next_entry: fn(&[u8], Rest) -> Option<(Entry, Rest)>,
     pub judge: fn(&[u16], &[u8], &mut [u16], &mut [u16]) -> Refused<Judgement>,
+}
+
+impl Calls {
+    /// The converter to form 1 or 2.
+    pub fn to_form(&self, form: u16) -> Converter {
+        match form {
+            1 => self.to_form_1,
+            2 => self.to_form_2,
+            _ => panic!("there is no form {form}"),
+        }
+    }
+}
+
+/// Makes of each function that takes the calls two tests.
+#[allow(unused_macros)] // as dead code
+macro_rules! on_both {
+    ($($name:ident)*) => {
+        mod of_the_library {
+            $(#[test] fn $name() { super::$name(&super::both::LIBRARY) })*
+        }
+        mod of_the_independent {
+            $(#[test] fn $name() { super::$name(&super::both::INDEPENDENT) })*
+        }
+    };
 }
 
 /// The iterator's entries. At each of them it says how many remain.
@@ -41,6 +69,8 @@ fn collected(cells: &[u16], list: &[u8]) -> Refused<Vec<Entry>> {
 pub const LIBRARY: Calls = Calls {
     read,
     check,
+    to_form_1,
+    to_form_2,
     write,
     run,
     find,
@@ -56,6 +86,8 @@ pub const LIBRARY: Calls = Calls {
 pub const INDEPENDENT: Calls = Calls {
     read: calls::read,
     check: calls::check,
+    to_form_1: calls::to_form_1,
+    to_form_2: calls::to_form_2,
     write: calls::write,
     run: calls::run,
     find: calls::find,

@@ -21,6 +21,8 @@ pub struct Production {
 pub struct Book {
     pub sizes: Sizes,
     pub productions: Vec<Production>,
+    /// By terminal. They stand in the book only in form 2.
+    pub ranks: Vec<u16>,
     /// By state, then terminal.
     pub actions: Vec<Action>,
     /// By state, then nonterminal.
@@ -56,12 +58,36 @@ impl Book {
         self.gotos[state * self.nonterminals() + nonterminal].map(usize::from)
     }
 
+    /// The book with another form. In form 1 the ranks have to be the terminals' numbers.
+    pub fn in_form(&self, form: u16) -> Book {
+        let sizes = Sizes { form, ..self.sizes };
+        Book {
+            sizes,
+            ..self.clone()
+        }
+    }
+
+    /// The index of the first rank's cell in form 2.
+    pub fn first_rank(&self) -> usize {
+        5 + 2 * self.productions.len()
+    }
+
+    /// Of two sentences of equal length, whether the one is earlier in order: whether it has the
+    /// lower rank at the first difference.
+    pub fn earlier(&self, one: &[u8], other: &[u8]) -> bool {
+        let rank = |&symbol: &u8| self.ranks[usize::from(symbol)];
+        one.iter().map(rank).lt(other.iter().map(rank))
+    }
+
     pub fn cells(&self) -> Vec<u16> {
         let sizes = self.sizes;
-        let mut cells = vec![1, sizes.terminals, sizes.nonterminals];
+        let mut cells = vec![sizes.form, sizes.terminals, sizes.nonterminals];
         cells.extend([sizes.states, sizes.productions]);
         for production in &self.productions {
             cells.extend([production.left, production.length]);
+        }
+        if sizes.form == 2 {
+            cells.extend(&self.ranks);
         }
         cells.extend(self.actions.iter().map(|&action| action_cell(action)));
         cells.extend(self.gotos.iter().map(|goto| goto.map_or(0, |s| s + 1)));
@@ -83,12 +109,13 @@ fn action_cell(action: Action) -> u16 {
 }
 
 fn decode(source: &mut impl Source) -> Result<Book, Refusal> {
-    ranged(source, 3, 1, 1)?;
+    let form = ranged(source, 3, 1, 2)?;
     let terminals = ranged(source, 4, 1, 32)?;
     let nonterminals = ranged(source, 4, 0, 32)?;
     let states = ranged(source, 4, 1, 128)?;
     let productions = ranged(source, 4, 0, 128)?;
     let sizes = Sizes {
+        form,
         terminals,
         nonterminals,
         states,
@@ -97,6 +124,7 @@ fn decode(source: &mut impl Source) -> Result<Book, Refusal> {
     let book = Book {
         sizes,
         productions: decode_productions(source, sizes)?,
+        ranks: decode_ranks(source, sizes)?,
         actions: decode_actions(source, sizes)?,
         gotos: decode_gotos(source, sizes)?,
     };
@@ -127,6 +155,22 @@ fn decode_productions(source: &mut impl Source, sizes: Sizes) -> Result<Vec<Prod
         productions.push(Production { left, length });
     }
     Ok(productions)
+}
+
+/// In form 1 no ranks stand in the book: a terminal's rank is its number.
+fn decode_ranks(source: &mut impl Source, sizes: Sizes) -> Result<Vec<u16>, Refusal> {
+    if sizes.form == 1 {
+        return Ok((0..sizes.terminals).collect());
+    }
+    let mut ranks = Vec::new();
+    for _ in 0..sizes.terminals {
+        let rank = source.next()?;
+        if rank.value >= sizes.terminals || ranks.contains(&rank.value) {
+            return refuse(16, rank.place);
+        }
+        ranks.push(rank.value);
+    }
+    Ok(ranks)
 }
 
 fn decode_actions(source: &mut impl Source, sizes: Sizes) -> Result<Vec<Action>, Refusal> {

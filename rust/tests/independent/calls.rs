@@ -17,6 +17,19 @@ pub fn check(cells: &[u16]) -> Result<Sizes, Refusal> {
     Ok(Book::from_cells(cells)?.sizes)
 }
 
+pub fn to_form_1(cells: &[u16], lent: &mut [u16]) -> Result<usize, Refusal> {
+    let book = Book::from_cells(cells)?;
+    let other = |&terminal: &usize| usize::from(book.ranks[terminal]) != terminal;
+    if let Some(terminal) = (0..book.terminals()).find(other) {
+        return refuse(17, book.first_rank() + terminal);
+    }
+    hand_over(&book.in_form(1).cells(), lent)
+}
+
+pub fn to_form_2(cells: &[u16], lent: &mut [u16]) -> Result<usize, Refusal> {
+    hand_over(&Book::from_cells(cells)?.in_form(2).cells(), lent)
+}
+
 pub fn write(cells: &[u16], bytes: &mut [u8]) -> Result<usize, Refusal> {
     let result = Book::from_cells(cells)?.bytes();
     hand_over(&result, bytes)

@@ -1,7 +1,7 @@
 //! The shortest and earliest words, put together along least costs.
 //!
-//! The best word of a fact is the earliest of all `front word + rest word` whose costs add up to
-//! the fact's own. Facts of no cost have the empty word. The others are gathered from the one
+//! The best word of a fact is the earliest by rank of all `front word + rest word` whose costs add
+//! up to the fact's own. Facts of no cost have the empty word. The others are gathered from the one
 //! wanted, then settled by rising cost; facts of one cost may lean on each other through parts of
 //! no cost, so each cost is gone over until nothing changes.
 
@@ -123,7 +123,8 @@ impl<'a> Words<'a> {
         self.each_split(fact, |front, rest| {
             word.clear();
             let known = self.append(front, &mut word) && self.append(rest, &mut word);
-            if known && best.as_ref().is_none_or(|best| word < *best) {
+            let earlier = |best: &Vec<u8>| self.summaries.book.earlier(&word, best);
+            if known && best.as_ref().is_none_or(earlier) {
                 best = Some(word.clone());
             }
         });

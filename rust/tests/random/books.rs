@@ -1,5 +1,7 @@
 //! Random books.
 
+use super::grammars::{grammar_book, Scale, MEDIUM, SMALL};
+use super::ranks::some_ranks;
 use super::Random;
 use crate::independent::book::{Action, Book, Production};
 use purlquartz::Sizes;
@@ -14,9 +16,29 @@ pub struct Taste {
     pub gotos: usize,
 }
 
+pub fn small_book(random: &mut Random) -> Book {
+    any_book(random, small_taste, SMALL)
+}
+
+pub fn medium_book(random: &mut Random) -> Book {
+    any_book(random, medium_taste, MEDIUM)
+}
+
+/// A book that is wild, of a grammar, or of a grammar and disturbed.
+fn any_book(random: &mut Random, taste: fn(&mut Random) -> Taste, scale: Scale) -> Book {
+    if random.percent(60) {
+        let taste = taste(random);
+        return wild(random, taste);
+    }
+    let book = grammar_book(random, scale);
+    let changes = random.below(5);
+    disturbed(random, &book, changes)
+}
+
 /// Sizes of a book that brute force can deal with, dense or sparse.
 pub fn small_taste(random: &mut Random) -> Taste {
     let sizes = Sizes {
+        form: random.between(1, 2) as u16,
         terminals: random.between(1, 4) as u16,
         nonterminals: random.between(0, 3) as u16,
         states: random.between(1, 7) as u16,
@@ -31,9 +53,30 @@ pub fn small_taste(random: &mut Random) -> Taste {
     }
 }
 
+/// A book of form 2 with few states and many shifts: many pairs have several shortest sentences,
+/// of which the ranks choose one.
+pub fn tied_book(random: &mut Random) -> Book {
+    let sizes = Sizes {
+        form: 2,
+        terminals: random.between(3, 6) as u16,
+        nonterminals: random.between(1, 3) as u16,
+        states: random.between(3, 8) as u16,
+        productions: random.between(1, 5) as u16,
+    };
+    let taste = Taste {
+        sizes,
+        longest: random.between(1, 3),
+        shifts: random.between(20, 60),
+        reduces: random.between(10, 40),
+        gotos: random.between(50, 100),
+    };
+    wild(random, taste)
+}
+
 /// Sizes in the middle of the limits, with productions of up to 32 symbols.
 pub fn medium_taste(random: &mut Random) -> Taste {
     let sizes = Sizes {
+        form: random.between(1, 2) as u16,
         terminals: random.between(2, 10) as u16,
         nonterminals: random.between(1, 8) as u16,
         states: random.between(4, 30) as u16,
@@ -51,6 +94,7 @@ pub fn medium_taste(random: &mut Random) -> Taste {
 /// Sizes up to the limits. Productions are short, or few reductions could be done.
 pub fn large_taste(random: &mut Random) -> Taste {
     let sizes = Sizes {
+        form: random.between(1, 2) as u16,
         terminals: random.between(16, 32) as u16,
         nonterminals: random.between(8, 32) as u16,
         states: random.between(40, 128) as u16,
@@ -65,8 +109,8 @@ pub fn large_taste(random: &mut Random) -> Taste {
     }
 }
 
-/// A book with any tables that are in range: states need not be reachable, reductions may break
-/// or go on for ever.
+/// A book with any tables and ranks that are in range: states need not be reachable, reductions may
+/// break or go on for ever.
 pub fn wild(random: &mut Random, taste: Taste) -> Book {
     let mut sizes = taste.sizes;
     if sizes.nonterminals == 0 {
@@ -77,6 +121,7 @@ pub fn wild(random: &mut Random, taste: Taste) -> Book {
         length: random.between(0, taste.longest) as u16,
     });
     let productions = productions.collect();
+    let ranks = some_ranks(random, sizes);
     let mut actions = Vec::new();
     for _ in 0..sizes.states {
         for terminal in 0..sizes.terminals {
@@ -91,6 +136,7 @@ pub fn wild(random: &mut Random, taste: Taste) -> Book {
     Book {
         sizes,
         productions,
+        ranks,
         actions,
         gotos: gotos.collect(),
     }

@@ -1,6 +1,7 @@
 //! Damage to bytes and cells.
 
 use super::Random;
+use crate::independent::book::Book;
 
 /// The bytes with one of them changed, some lost or some added.
 pub fn damaged(random: &mut Random, bytes: &[u8]) -> Vec<u8> {
@@ -32,9 +33,32 @@ fn pad(bytes: &mut Vec<u8>, at: usize, more: usize) {
     }
 }
 
-/// The cells with one or two of them changed, some lost or some added.
-pub fn damaged_cells(random: &mut Random, cells: &[u16]) -> Vec<u16> {
-    let mut cells = cells.to_vec();
+/// The book's cells with one, two or three of them changed, some lost or some added. Ranks are
+/// few, so they are often changed on purpose.
+pub fn damaged_cells(random: &mut Random, book: &Book) -> Vec<u16> {
+    let mut cells = book.cells();
+    if book.sizes.form == 2 && random.percent(30) {
+        let ranks = &mut cells[book.first_rank()..][..book.terminals()];
+        damage_rank(random, ranks);
+        match random.below(3) {
+            0 => return cells,
+            1 => damage_rank(random, ranks),
+            _ => {}
+        }
+    }
+    damage_cells(random, &mut cells);
+    cells
+}
+
+/// Makes one of T ranks T or more, or another one's, which is before it or after it.
+fn damage_rank(random: &mut Random, ranks: &mut [u16]) {
+    let terminals = ranks.len();
+    let other = ranks[random.below(terminals)];
+    let most = terminals as u16;
+    ranks[random.below(terminals)] = random.pick(&[other, other, other, most, most + 1, 65_535]);
+}
+
+fn damage_cells(random: &mut Random, cells: &mut Vec<u16>) {
     let at = random.below(cells.len());
     let head = random.below(5).min(at);
     let near = cells[at].wrapping_add(random.pick(&[1, 2, 4, 65_535, 65_534]));
@@ -51,5 +75,4 @@ pub fn damaged_cells(random: &mut Random, cells: &[u16]) -> Vec<u16> {
         }
         _ => cells[at] = value,
     }
-    cells
 }

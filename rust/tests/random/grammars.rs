@@ -1,5 +1,6 @@
 //! Books of random grammars: conflicts are settled any way, so they need not be good parsers.
 
+use super::ranks::in_any_form;
 use super::Random;
 use crate::grammar::{Grammar, Rule, Symbol};
 use crate::independent::book::Book;
@@ -33,7 +34,7 @@ pub fn grammar_book(random: &mut Random, scale: Scale) -> Book {
     loop {
         let grammar = grammar(random, scale);
         if let Ok(tables) = lalr::build(&grammar) {
-            return Book::from_cells(&tables.cells).expect("the generator's tables are in range");
+            return made_book(random, &tables.cells);
         }
     }
 }
@@ -66,7 +67,13 @@ pub fn long_book(random: &mut Random) -> Book {
         shift_wins: true,
     };
     let tables = lalr::build(&grammar).expect("within the limits");
-    Book::from_cells(&tables.cells).expect("the generator's tables are in range")
+    made_book(random, &tables.cells)
+}
+
+/// The book of the generator's tables, which are of form 1, in any form.
+fn made_book(random: &mut Random, cells: &[u16]) -> Book {
+    let book = Book::from_cells(cells).expect("the generator's tables are in range");
+    in_any_form(random, book)
 }
 
 fn grammar(random: &mut Random, scale: Scale) -> Grammar {

@@ -5,6 +5,7 @@ pub mod books;
 pub mod bytes;
 pub mod grammars;
 pub mod lists;
+pub mod ranks;
 
 /// Steele, Lea and Flood's SplitMix64: small, and good enough to make test inputs.
 pub struct Random {
@@ -41,5 +42,12 @@ impl Random {
 
     pub fn pick<T: Copy>(&mut self, choices: &[T]) -> T {
         choices[self.below(choices.len())]
+    }
+
+    /// Puts the items in any order, each as likely as the others.
+    pub fn shuffle<T>(&mut self, items: &mut [T]) {
+        for last in (1..items.len()).rev() {
+            items.swap(last, self.below(last + 1));
+        }
     }
 }

@@ -4,7 +4,7 @@ use mathlib.Core.Path.{sym, _∙_}
 use native.Mathlib.Omega.{arith}
 use Rattle.book.specs.BookLaws.{readable, deliver-stop, deliver-short, deliver-whole, checked-faulty}
 use Rattle.book.specs.Book.{ofBytes, reading}
-use Rattle.book.specs.RangeLaws.{actions-few, gotos-few, few}
+use Rattle.book.specs.RangeLaws.{ranks-few, actions-few, gotos-few, few}
 use borrow.Author.Needs.{needs}
 use Rattle.book.proofs.bytes.read.Statement.{statement}
 use Rattle.book.proofs.bytes.read.Tie as tie
@@ -15,7 +15,7 @@ body-length-requires c κs = few ((readable _ _ _ (sym (c .before .before .befor
 
 add-n : tie.Need-add-n
 unfolding ofBytes
-add-n c = let v = readable _ _ _ (sym (c .before .before .before .before .check-bytes .ensures) ∙ c .before .before .d .given .1) in omega (arith, actions-few _ (v .small), gotos-few _ (v .small), c .body-length .ensures)
+add-n c = let v = readable _ _ _ (sym (c .before .before .before .before .check-bytes .ensures) ∙ c .before .before .d .given .1) in omega (arith, v .small .terminals, ranks-few (c .before .before .d .given .0 .0), actions-few _ (v .small), gotos-few _ (v .small), c .body-length .ensures)
 
 returns : tie.Need-returns
 unfolding ofBytes reading

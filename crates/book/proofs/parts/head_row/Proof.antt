@@ -12,4 +12,5 @@ unfolding sizesOf
 returns c = c .part-row .ensures
 
 pub head-row-spec : {M : Type 1} → statement M
-head-row-spec = tie.close (tie.spec part-row-requires returns)
+head-row-spec =
+    tie.close (tie.spec part-row-requires returns)

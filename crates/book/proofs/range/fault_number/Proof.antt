@@ -25,6 +25,22 @@ returns-5 : tie.Need-returns-5
 unfolding faultNumber
 returns-5 c = rw (c .enum-told4 .given .1)
 
+returns-6 : tie.Need-returns-6
+unfolding faultNumber
+returns-6 c = rw (c .enum-told5 .given .1)
+
 pub fault-number-spec : {M : Type 1} → statement M
 fault-number-spec =
-    tie.close (tie.spec (λ c. search needs) returns (λ c. search needs) (λ c. search needs) (λ c. search needs) returns-2 returns-3 returns-4 returns-5)
+    tie.close
+    (tie.spec
+    (λ c. search needs)
+    returns
+    (λ c. search needs)
+    (λ c. search needs)
+    (λ c. search needs)
+    (λ c. search needs)
+    returns-2
+    returns-3
+    returns-4
+    returns-5
+    returns-6)

@@ -20,11 +20,29 @@ returns-2 : tie.Need-returns-2
 returns-2 c = rw (c .before .enum-told2 .given .1)
 
 returns-3 : tie.Need-returns-3
-returns-3 c = rw (c .before .enum-told3 .given .1)
+returns-3 c = rw (c .before .enum-told3 .given .1) (c .rank-count .ensures)
 
 returns-4 : tie.Need-returns-4
 returns-4 c = rw (c .before .enum-told4 .given .1)
 
+returns-5 : tie.Need-returns-5
+returns-5 c = rw (c .before .enum-told5 .given .1)
+
 pub part-length-spec : {M : Type 1} → statement M
 part-length-spec =
-    tie.close (tie.spec (λ c. search needs) (λ c. search needs) mul-result (λ c. search needs) mul-result-2 (λ c. search needs) mul-result-3 returns returns-2 returns-3 returns-4)
+    tie.close
+    (tie.spec
+    (λ c. search needs)
+    (λ c. search needs)
+    mul-result
+    (λ c. search needs)
+    (λ c κs. search needs)
+    (λ c. search needs)
+    mul-result-2
+    (λ c. search needs)
+    mul-result-3
+    returns
+    returns-2
+    returns-3
+    returns-4
+    returns-5)

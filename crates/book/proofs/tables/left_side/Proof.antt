@@ -1,13 +1,11 @@
 -- `book::tables::left_side` meets its contract. Assumes nothing.
-use mathlib.Core.Path.{refl}
-use Rattle.book.specs.Tables.{tablesOf}
+use Rattle.book.specs.TablesLaws.{lhs-inside}
 use borrow.Author.Needs.{needs}
 use Rattle.book.proofs.tables.left_side.Statement.{statement}
 use Rattle.book.proofs.tables.left_side.Tie as tie
 
 returns : tie.Need-returns
-unfolding tablesOf
-returns c = refl
+returns c = rw (lhs-inside (c .before .pre .0) (c .before .args .p) (c .before .pre .1))
 
 pub left-side-spec : {M : Type 1} → statement M
 left-side-spec =

@@ -1,10 +1,11 @@
--- `choice::sentence::choose` meets its contract: each symbol is the lowest that keeps a shortest sentence in sight. Assumes nothing.
+-- `choice::sentence::choose` meets its contract: each symbol is the lowest by rank that keeps a shortest sentence in sight. Assumes nothing.
 use native.Mathlib.Omega.{arith}
 use mathlib.Core.List.{reverse}
 use mathlib.Core.Path.{_≡_, refl, sym, _∙_, subst}
 use Prim.Native.Nat.{ℕ, _+_, _-_, _≤_, _<_}
 use lib.ListN.{length, take, length-set}
 use lib.Seq.{length-take-le}
+use Rattle.book.specs.Order.{placeIn}
 use Rattle.book.specs.Tables.{tablesOf}
 use Rattle.book.specs.TablesLaws.{in-range}
 use Rattle.layers.specs.CrossingLaws.{states-are, terminals-are, terminal}
@@ -27,20 +28,20 @@ one-less : (n i : ℕ) → i < n → n - (i + 1) ≡ n - i - 1
 one-less n i h = omega arith
 
 abbrev Inv-loop : tie.InvT-loop
-Inv-loop cells d table rows togo pending s z n stack₀ depth costs₀ values₀ on₀ next₀ next-on₀ events₀ done₀ buffer₀ top₀ i₀ stack costs values on next next-on events done buffer top i = (i ≤ n) × (length buffer ≡ length buffer₀) × (length stack ≡ length stack₀) × Choosing plain (λ a. a) (tablesOf cells) (Brings (tablesOf cells) z (Tops s) (reverse (take depth stack₀))) (reverse (take depth stack₀)) n buffer₀ buffer stack top i (n - i) × ((length costs ≡ 4096) × SearchRoom values next events done)
+Inv-loop cells d table rows togo pending order s z n stack₀ depth₀ costs₀ values₀ on₀ next₀ next-on₀ events₀ done₀ buffer₀ i₀ stack depth costs values on next next-on events done buffer i = (i ≤ n) × (length buffer ≡ length buffer₀) × (length stack ≡ length stack₀) × Choosing plain (placeIn order) (tablesOf cells) (Brings (tablesOf cells) z (Tops s) (reverse (take depth₀ stack₀))) (reverse (take depth₀ stack₀)) n buffer₀ buffer stack depth i (n - i) × ((length costs ≡ 4096) × SearchRoom values next events done)
 
 abbrev μ-loop : tie.MeasureT-loop
-μ-loop cells d table rows togo pending s z n stack₀ depth costs₀ values₀ on₀ next₀ next-on₀ events₀ done₀ buffer₀ top₀ i₀ stack costs values on next next-on events done buffer top i = n - i
+μ-loop cells d table rows togo pending order s z n stack₀ depth₀ costs₀ values₀ on₀ next₀ next-on₀ events₀ done₀ buffer₀ i₀ stack depth costs values on next next-on events done buffer i = n - i
 
 loop-holds : tie.Need-loop-holds Inv-loop μ-loop
 loop-holds c =
     let p = c .before .before .before .before .before .pre in
     let a = c .before .before .before .before .before .args in
     let stacked : Stacked (tablesOf (a .cells .now) .states) (a .stack .now) (a .depth) = subst (λ (k : ℕ). Stacked k (a .stack .now) (a .depth)) (sym (states-are (p .0 .fitted .holds))) (p .1 .1 .1 .0 .0) in
-    (omega arith, refl, refl, rw (zero-left _) (choosing-begun stacked (omega (arith, p .1 .1 .1 .0 .1)) (p .1 .1 .1 .1 .0 .1) (p .1 .0 .1)), p .1 .1 .1 .1 .1 .1)
+    (omega arith, refl, refl, rw (zero-left _) (choosing-begun stacked (omega (arith, p .1 .1 .1 .0 .1)) (p .1 .1 .1 .1 .0 .1) (p .1 .0 .1)), p .1 .1 .1 .1 .1 .1 .1)
 
 -- there is room for one symbol more
-room : (c : tie.In-loop Inv-loop μ-loop) → c .before .loop .top + 128 ≤ length (c .before .loop .stack)
+room : (c : tie.In-loop Inv-loop μ-loop) → c .before .loop .depth + 128 ≤ length (c .before .loop .stack)
 room c =
     let r = c .before .before .before .before .before .before .before .pre .1 .1 .1 .0 .1 in
     omega (arith, c .before .loop .inv .3 .low, begun-length (c .before .before .before .before .before .before .before .args .depth) (c .before .before .before .before .before .before .before .args .stack .now) (omega (arith, r)), r, c .before .loop .inv .2, c .loop-test .taken)
@@ -55,9 +56,9 @@ cast-lowest : tie.Need-cast-lowest Inv-loop μ-loop
 cast-lowest c = omega (arith, c .before .before .before .before .before .before .before .before .pre .1 .0)
 
 lowest-requires : tie.Need-lowest-requires Inv-loop μ-loop
-lowest-requires c κs = let p = c .before .before .before .before .before .before .before .before .before .before .before .before .before .before .pre in let l = c .before .before .before .before .before .before .before .before .loop .inv in (p .0, (omega (arith, p .1 .0), (part-states (rw (states-are (p .0 .fitted .holds)) at (l .3 .stacked)) (omega (arith, room (c .before .before .before .before .before .before .before))), (p .1 .1 .1 .1 .1 .0, l .4 .1))))
+lowest-requires c κs = let p = c .before .before .before .before .before .before .before .before .before .before .before .before .before .before .pre in let l = c .before .before .before .before .before .before .before .before .loop .inv in (p .0, (omega (arith, p .1 .0), (part-states (rw (states-are (p .0 .fitted .holds)) at (l .3 .stacked)) (omega (arith, room (c .before .before .before .before .before .before .before))), (p .1 .1 .1 .1 .1 .0, (p .1 .1 .1 .1 .1 .1 .0, l .4 .1)))))
 
-pick : (c : tie.After-lowest Inv-loop μ-loop) → Picked plain (λ a. a) (tablesOf (c .before .before .before .before .before .before .before .before .before .before .before .before .before .before .before .args .cells .now)) (Brings (tablesOf (c .before .before .before .before .before .before .before .before .before .before .before .before .before .before .before .args .cells .now)) (c .before .before .before .before .before .before .before .before .before .before .before .before .before .before .before .args .z) (Tops (c .before .before .before .before .before .before .before .before .before .before .before .before .before .before .before .args .s)) (reverse (take (c .before .before .before .before .before .before .before .before .before .before .before .before .before .before .before .args .depth) (c .before .before .before .before .before .before .before .before .before .before .before .before .before .before .before .args .stack .now)))) (c .before .before .before .before .before .before .before .before .before .loop .inv .3 .word) (reverse (take (c .before .before .before .before .before .before .before .before .before .loop .top) (c .before .before .before .before .before .before .before .before .before .loop .stack))) (c .before .before .before .before .before .before .before .before .before .before .before .before .before .before .before .args .n - c .before .before .before .before .before .before .before .before .before .loop .i) (c .lowest .result)
+pick : (c : tie.After-lowest Inv-loop μ-loop) → Picked plain (placeIn (c .before .before .before .before .before .before .before .before .before .before .before .before .before .before .before .args .order .now)) (tablesOf (c .before .before .before .before .before .before .before .before .before .before .before .before .before .before .before .args .cells .now)) (Brings (tablesOf (c .before .before .before .before .before .before .before .before .before .before .before .before .before .before .before .args .cells .now)) (c .before .before .before .before .before .before .before .before .before .before .before .before .before .before .before .args .z) (Tops (c .before .before .before .before .before .before .before .before .before .before .before .before .before .before .before .args .s)) (reverse (take (c .before .before .before .before .before .before .before .before .before .before .before .before .before .before .before .args .depth) (c .before .before .before .before .before .before .before .before .before .before .before .before .before .before .before .args .stack .now)))) (c .before .before .before .before .before .before .before .before .before .loop .inv .3 .word) (reverse (take (c .before .before .before .before .before .before .before .before .before .loop .depth) (c .before .before .before .before .before .before .before .before .before .loop .stack))) (c .before .before .before .before .before .before .before .before .before .before .before .before .before .before .before .args .n - c .before .before .before .before .before .before .before .before .before .loop .i) (c .lowest .result)
 pick c =
     let p = c .before .before .before .before .before .before .before .before .before .before .before .before .before .before .before .pre in
     let l = c .before .before .before .before .before .before .before .before .before .loop .inv in

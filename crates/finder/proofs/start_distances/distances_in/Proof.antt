@@ -1,19 +1,33 @@
--- `finder::start_distances::distances_in` meets its contract. Assumes nothing.
+-- `finder::start_distances::distances_in` meets its contract: the plain cells have the book's tables. Assumes nothing.
+use mathlib.Core.Path.{sym}
 use native.Mathlib.Omega.{arith}
-use Prim.Native.Nat.{ℕ}
-use lib.ListN.{length-replicate}
-use Rattle.walk.specs.Scale.{plain, unreached}
-use Rattle.finder.specs.MapLaws.{work-cleared}
+use lib.Seq.{length-take-le}
+use Rattle.forms.specs.FormsLaws.{plain-holds}
+use Rattle.finder.specs.AlikeLaws.{start-plain}
 use borrow.Author.Needs.{needs}
 use Rattle.finder.proofs.start_distances.distances_in.Statement.{statement}
 use Rattle.finder.proofs.start_distances.distances_in.Tie as tie
 
-crossings-with-requires : tie.Need-crossings-with-requires
-crossings-with-requires c κs = (c .before .before .before .before .before .before .before .before .before .pre .0, (omega (arith, c .before .before .before .before .before .before .before .before .before .pre .1), (c .before .before .before .before .before .open-rows .ensures, record { first = length-replicate {A = ℕ} 4096 (unreached plain); second = length-replicate {A = ℕ} 4096 (unreached plain) })))
+slice-aggregate-distances-plain : tie.Need-slice-aggregate-distances-plain
+slice-aggregate-distances-plain c = sym (length-take-le _ _ (omega (arith, c .before .before .plain-cells .ensures .1, c .before .before .plain-cells .kept .1 .1 .0)))
+
+distances-plain-requires : tie.Need-distances-plain-requires
+distances-plain-requires c κs = (rw (c .before .before .before .before .before .plain-cells .ensures .0, c .before .before .plain-sizes .ensures) (plain-holds _ _ (c .before .before .before .before .before .before .before .before .before .pre .0)), rw (c .before .before .plain-sizes .ensures) (c .before .before .before .before .before .before .before .before .before .pre .1))
 
 returns : tie.Need-returns
-returns c = (c .before .before .before .before .before .from-start .ensures, work-cleared (c .before .before .before .before .before .before .before .before .before .before .before .before .before .before .before .before .before .before .before .before .before .args .d) (c .before .before .before .before .before .before .before .before .before .before .before .crossings-with .ensures .1) (c .before .before .before .before .work-cells .ensures) (c .before .before .clear .ensures))
+returns c =
+    let e = c .before .before .distances-plain .ensures in
+    (start-plain _ _ (c .before .before .before .before .before .before .before .before .before .before .before .before .pre .0) (rw (c .before .before .before .before .before .before .before .before .plain-cells .ensures .0, c .before .before .before .before .before .plain-sizes .ensures) at (e .0)), rw (c .before .before .before .before .before .plain-sizes .ensures) at (e .1))
 
 pub distances-in-spec : {M : Type 1} → statement M
 distances-in-spec =
-    tie.close (tie.spec (λ c κs. search needs) crossings-with-requires (λ c κs. search needs) (λ c κs. search needs) (λ c κs. search needs) (λ c. search needs) returns)
+    tie.close
+    (tie.spec
+    (λ c. search needs)
+    (λ c κs. search needs)
+    (λ c. search needs)
+    slice-aggregate-distances-plain
+    (λ c κs. search needs)
+    distances-plain-requires
+    (λ c. search needs)
+    returns)

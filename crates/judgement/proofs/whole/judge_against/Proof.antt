@@ -15,4 +15,14 @@ returns c =
     judge-unlisted (now (a .cells)) (now (a .list)) (now (a .work)) (now (a .stack)) (c .before .before .before .before .before .before .before .before .pre) (sym (c .before .before .before .check-list .ensures) ∙ c .before .r .given .1)
 
 pub judge-against-spec : {M : Type 1} → statement M
-judge-against-spec = tie.close (tie.spec (λ c κs. search needs) (λ c. search needs) (λ c. search needs) judge-list-requires returns (λ c. search needs) (λ c. search needs) (λ c. search needs))
+judge-against-spec =
+    tie.close
+    (tie.spec
+    (λ c κs. search needs)
+    (λ c. search needs)
+    (λ c. search needs)
+    judge-list-requires
+    returns
+    (λ c. search needs)
+    (λ c. search needs)
+    (λ c. search needs))

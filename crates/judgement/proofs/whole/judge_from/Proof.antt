@@ -1,19 +1,33 @@
--- `judgement::whole::judge_from` meets its contract: the first fault, or else the states without an entry. Assumes nothing.
-use mathlib.Core.Path.{refl}
+-- `judgement::whole::judge_from` meets its contract: the plain cells have the book's tables. Assumes nothing.
+use mathlib.Core.Path.{sym}
 use native.Mathlib.Omega.{arith}
-use Rattle.layers.specs.CrossingLaws.{states-are}
-use Rattle.judgement.specs.CoverageLaws.{covered-judged}
-use Rattle.judgement.specs.Judgement.{faulty}
+use lib.Seq.{length-take-le}
+use Rattle.forms.specs.FormsLaws.{plain-holds, plain-tables}
 use borrow.Author.Needs.{needs}
 use Rattle.judgement.proofs.whole.judge_from.Statement.{statement}
 use Rattle.judgement.proofs.whole.judge_from.Tie as tie
 
-returns : tie.Need-returns
-returns c = let f = rw (c .before .j .given .1) at (c .before .before .before .before .before .judge-entries .ensures .0) in (faulty _ f, (record { size = refl; rest = λ k h. refl }, c .before .before .before .before .before .judge-entries .ensures .1))
+slice-aggregate-judge-plain : tie.Need-slice-aggregate-judge-plain
+slice-aggregate-judge-plain c = sym (length-take-le _ _ (omega (arith, c .before .before .plain-cells .ensures .1, c .before .before .plain-cells .kept .1 .1 .0)))
 
-returns-2 : tie.Need-returns-2
-returns-2 c = let f = rw (c .before .before .before .before .before .enum-told .given .1) at (c .before .before .before .before .before .before .before .before .before .judge-entries .ensures .0) in (covered-judged (omega (arith, states-are (c .before .before .before .before .before .before .before .before .before .before .before .before .before .before .before .before .pre .0), c .before .before .before .before .before .before .before .before .before .before .before .before .before .before .before .before .pre .0 .small .states)) (f .1) (f .2) (c .before .before .cover .ensures .0), (c .before .before .cover .ensures .1, c .before .before .before .before .before .before .before .before .before .judge-entries .ensures .1))
+judge-plain-requires : tie.Need-judge-plain-requires
+judge-plain-requires c κs = (rw (c .before .before .before .before .before .plain-cells .ensures .0, c .before .before .plain-sizes .ensures) (plain-holds _ _ (c .before .before .before .before .before .before .before .before .before .before .before .pre .0)), rw (c .before .before .plain-sizes .ensures) (c .before .before .before .before .before .before .before .before .before .before .before .pre .1))
+
+returns : tie.Need-returns
+returns c =
+    let e = rw (c .before .before .before .before .before .before .before .before .before .before .plain-cells .ensures .0, c .before .before .before .before .before .before .before .plain-sizes .ensures) at (c .before .before .before .before .judge-plain .ensures) in
+    (rw (plain-tables _ _ (c .before .before .before .before .before .before .before .before .before .before .before .before .before .before .before .before .pre .0)) at (e .0), e .1)
 
 pub judge-from-spec : {M : Type 1} → statement M
 judge-from-spec =
-    tie.close (tie.spec (λ c κs. search needs) (λ c. search needs) (λ c. search needs) (λ c κs. search needs) (λ c. search needs) returns (λ c. search needs) (λ c. search needs) returns-2)
+    tie.close
+    (tie.spec
+    (λ c. search needs)
+    (λ c κs. search needs)
+    (λ c. search needs)
+    slice-aggregate-judge-plain
+    (λ c κs. search needs)
+    judge-plain-requires
+    (λ c. search needs)
+    (λ c. search needs)
+    returns)

@@ -2,16 +2,23 @@
 use denote.Ref.{now}
 use mathlib.Core.Path.{sym, _∙_}
 use native.Mathlib.Omega.{arith}
+use Rattle.book.specs.TablesLaws.{accepted-book}
 use Rattle.judgement.specs.AdmissionLaws.{accepted, accepted-standing, judge-room, judge-unroomed, judge-answered}
 use borrow.Author.Needs.{needs}
 use Rattle.judgement.proofs.whole.judge_list.Statement.{statement}
 use Rattle.judgement.proofs.whole.judge_list.Tie as tie
 
+admit-room-requires : tie.Need-admit-room-requires
+admit-room-requires c κs = accepted-book _ _ (c .before .before .before .before .pre .0) .small
+
+work-cells-requires : tie.Need-work-cells-requires
+work-cells-requires c κs = accepted-book _ _ (c .before .before .before .before .before .before .before .before .before .before .before .before .before .before .pre .0) .small
+
 judge-from-requires : tie.Need-judge-from-requires
 judge-from-requires c κs =
     let p = c .before .before .before .before .before .before .before .before .before .pre in
     let m = judge-room _ _ _ (sym (c .before .before .before .before .admit-room .ensures) ∙ c .before .before .enum-told .given .1) in
-    (p .0, (accepted-standing (p .0) (accepted _ _ (p .1)), (omega (arith, m .0), m .1)))
+    (p .0, (accepted-standing _ (p .0) (accepted _ _ (p .1)), (omega (arith, m .0), m .1)))
 
 clear-requires : tie.Need-clear-requires
 clear-requires c κs = omega (arith, judge-room _ _ _ (sym (c .before .before .before .before .before .before .before .before .before .before .before .admit-room .ensures) ∙ c .before .before .before .before .before .before .before .before .before .enum-told .given .1) .0)
@@ -34,4 +41,17 @@ returns-2 c =
     (j .ensures .0) (j .ensures .1 .0) (c .before .before .before .before .before .before .before .before .work-cells .ensures) (c .before .before .before .before .before .before .clear .ensures) (j .ensures .1 .1) (c .before .before .clear2 .ensures)
 
 pub judge-list-spec : {M : Type 1} → statement M
-judge-list-spec = tie.close (tie.spec (λ c κs. search needs) (λ c. search needs) (λ c. search needs) judge-from-requires (λ c κs. search needs) clear-requires clear-requires-2 returns (λ c. search needs) (λ c. search needs) returns-2)
+judge-list-spec =
+    tie.close
+    (tie.spec
+    admit-room-requires
+    (λ c. search needs)
+    (λ c. search needs)
+    judge-from-requires
+    work-cells-requires
+    clear-requires
+    clear-requires-2
+    returns
+    (λ c. search needs)
+    (λ c. search needs)
+    returns-2)

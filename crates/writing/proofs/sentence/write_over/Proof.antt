@@ -19,17 +19,17 @@ choose-requires c κs =
     let p = c .before .before .before .before .before .before .before .before .before .before .before .before .before .before .before .before .pre in
     let h = p .0 in
     let t = p .1 .0 .0 in
-    let room = p .1 .1 .1 .1 in (
+    let room = p .1 .1 .1 .1 .1 in (
       table-usable h t (p .1 .0 .1),
       (
-        p .1 .1 .1 .0,
+        p .1 .1 .1 .1 .0,
         (
           (table-closed h t, table-witnessed h t),
           (
             (start-stacked (h .small .some-state) (room .1), room .0),
             (
               (p .1 .1 .0 .0, start-exact (in-range h) (c .before .before .before .before .before .before .before .before .before .before .before .before .before .before .before .before .args .stack .now) (omega (arith, room .0)) (room .1) (p .1 .1 .0 .1)),
-              (record { range = in-range h; positions = c .before .before .before .before .before .before .before .before .before .before .mark-all .ensures }, (filled 4096, record { layers = record { first = filled 4096; second = filled 4096 }; rows = length-replicate {A = ℕ} 33824 0; followed = filled 1024 })),
+              (record { range = in-range h; positions = c .before .before .before .before .before .before .before .before .before .before .mark-all .ensures }, (p .1 .1 .1 .0, (filled 4096, record { layers = record { first = filled 4096; second = filled 4096 }; rows = length-replicate {A = ℕ} 33824 0; followed = filled 1024 }))),
             ),
           ),
         ),
@@ -39,7 +39,7 @@ choose-requires c κs =
 returns : tie.Need-returns
 returns c =
     let p = c .before .before .before .before .before .before .before .before .before .before .before .before .before .before .before .before .before .before .before .before .before .pre in
-    let room = p .1 .1 .1 .1 in
+    let room = p .1 .1 .1 .1 .1 in
     start-chose (in-range (p .0)) (c .before .before .before .before .before .before .before .before .before .before .before .before .before .before .before .before .before .before .before .before .before .args .stack .now) (omega (arith, room .0)) (room .1) (c .before .before .before .before .choose .ensures)
 
 pub write-over-spec : {M : Type 1} → statement M

@@ -1,0 +1,14 @@
+-- `book::range::rank_count` meets its contract. Assumes nothing.
+use borrow.Author.Tests.{eq-eqb, ne-eqb}
+use Rattle.book.proofs.range.rank_count.Statement.{statement}
+use Rattle.book.proofs.range.rank_count.Tie as tie
+
+returns : tie.Need-returns
+returns c = rw (eq-eqb _ _ (c .if1 .taken))
+
+returns-2 : tie.Need-returns-2
+returns-2 c = rw (ne-eqb _ _ (c .if1 .left))
+
+pub rank-count-spec : {M : Type 1} → statement M
+rank-count-spec =
+    tie.close (tie.spec returns returns-2)
