@@ -2,27 +2,30 @@
 use mathlib.Core.List.{List}
 use mathlib.Core.Logic.{_⊎_, inl, inr, ⊎-elim}
 use mathlib.Core.Path.{_≡_, refl, sym, _∙_}
-use Prim.Native.Nat.{ℕ, suc, _≤_, _<_}
+use Prim.Native.Nat.{ℕ, suc, _+_, _*_, _≤_, _<_}
 use native.Mathlib.Decide.{ℕ-discrete, decLt}
 use native.Mathlib.Omega.{arith}
 use lib.ListN.{getD, replicate, getD-replicate}
 use Rattle.book.specs.Tables.{Tables, tablesOf}
 use Rattle.book.specs.TablesLaws.{Holds, in-range, goto-some}
+use Rattle.book.specs.declared.Action.{Action}
 use Rattle.book.specs.declared.Action.the-variants.{Shift}
 use Rattle.book.specs.declared.Sizes.{Sizes}
 use Rattle.walk.specs.Scale.{Scale, unreached}
-use Rattle.walk.specs.CostLaws.{plus-far-left, plus-far-right, cut-unreached}
+use Rattle.walk.specs.CostLaws.{plus-far-left, plus-far-right, cut-unreached, cut-within, cut-beyond}
 use Rattle.walk.specs.Claims.{Claims}
 use Rattle.walk.specs.Layers.{Longer, add-shift, add-goto, cutAt}
-use Rattle.walk.specs.Sum.{shiftCost, plus}
+use Rattle.walk.specs.Sum.{shiftCost}
 use Rattle.layers.specs.Layer.{entryIn, valueIn, Wanted, Lengthened, LengthenedTo}
-use Rattle.layers.specs.LayerLaws.{TurnedOn, value-off}
+use Rattle.layers.specs.LayerLaws.{TurnedOn, value-off, value-read}
+use Rattle.layers.specs.Leaving.{TerminalsListed}
 use Rattle.layers.specs.States.{flagIn, listedIn, Listed}
 use Rattle.layers.specs.Crossing.{crossingRow, claimIn}
-use Rattle.layers.specs.CrossingLaws.{terminals-are, states-are}
+use Rattle.layers.specs.CrossingLaws.{terminals-are, states-are, crossing-split}
 use Rattle.layers.specs.Opening.{rowIn, Skips}
-use Rattle.layers.specs.Step.{TableStep, Upto, Level, Relaxed, ByShift, Goes, Leaves, LeavesState}
-use Rattle.layers.specs.StepLaws.{step-none, step-as, step-on, step-from, step-listed}
+use Rattle.layers.specs.Starts.{layerRow, crossingRows}
+use Rattle.layers.specs.Step.{TableStep, Upto, Level, Relaxed, Shifts, Enters, ByShift, Leaves, LeavesState}
+use Rattle.layers.specs.StepLaws.{step-none, step-among, step-as, step-join, step-on, step-from, step-listed}
 
 module _ (σ : Scale) (d : Sizes) (want : List ℕ) (B : Tables) (claim : Claims) where
   -- from an unreached entry nothing is reached
@@ -31,9 +34,6 @@ module _ (σ : Scale) (d : Sizes) (want : List ℕ) (B : Tables) (claim : Claims
       (λ s. omega (arith, s .2, plus-far-left σ v (shiftCost σ b) h))
       (λ g. omega (arith, g .2 .2, plus-far-left σ v (claim q₁ (g .0) b z) h))
       x
-
-  pub step-far : {q₁ b v : ℕ} {L : ℕ → ℕ → ℕ} → unreached σ ≤ v → TableStep σ (Leaves σ d want B claim q₁ b v) L L
-  step-far {q₁} {b} {v} h = step-none (λ q z w x l u. leaves-far q₁ b v q z w h x u)
 
   -- nor from a state that is off, so that a pass by the list of the states that are on is one over every state
   pub leaves-listed : {K L : ℕ → ℕ → ℕ} (bound : ℕ) (from on : List ℕ) → Listed (d .s) on
@@ -47,29 +47,46 @@ module _ (σ : Scale) (d : Sizes) (want : List ℕ) (B : Tables) (claim : Claims
 
 module _ {σ : Scale} {d : Sizes} {cells want : List ℕ} (h : Holds d cells) where
   -- nor from a row that can be passed over
-  pub step-skipped : {claim : Claims} {rows : List ℕ} (q₁ b v : ℕ) {L : ℕ → ℕ → ℕ} → Skips σ (tablesOf cells) claim rows → rowIn rows q₁ b ≡ 0 → b < d .t
-      → TableStep σ (Leaves σ d want (tablesOf cells) claim q₁ b v) L L
-  step-skipped {claim} q₁ b v k o hb = step-none (λ q z w x l u. ⊎-elim
+  leaves-skipped : {claim : Claims} {rows : List ℕ} (q₁ b v q z w : ℕ) → Skips σ (tablesOf cells) claim rows → rowIn rows q₁ b ≡ 0 → b < d .t
+      → Leaves σ d want (tablesOf cells) claim q₁ b v q z w → w < unreached σ → ⊥
+  leaves-skipped {claim} q₁ b v q z w k o hb x u = ⊎-elim
       (λ (e, hz, ew, on). k .shiftless o e)
       (λ (X, hX, (g, hz, ew, on)). omega (arith, ew, plus-far-right σ v (claim q₁ X b z) (omega (arith, k .unclaimed {z = z} o (rw (terminals-are h) hb) (rw (terminals-are h) hz) g))))
-      x)
+      x
 
-  -- a shift lowers the row of its target ..
-  pub lengthen-shift : (q a v : ℕ) {s w : ℕ} (old flags on-values on-flags new : List ℕ) → tablesOf cells .act q a ≡ Shift s → w ≡ plus σ v (shiftCost σ a) → Wanted want s → TurnedOn σ s old flags on-values on-flags
-      → TableStep σ (Upto (Level s w) (d .t)) (entryIn on-values) (entryIn new) → TableStep σ (ByShift σ d want (tablesOf cells) q a v) (valueIn σ old flags) (valueIn σ new on-flags)
-  lengthen-shift q a v {s} {w} old flags on-values on-flags new e i u on p = step-from (on .same) (step-as
-      (λ q′ z x (j, hj, (eq, ez, ex)). (rw eq e, rw ez hj, ex ∙ i, rw eq u))
-      (λ q′ z x (e′, hz, ex, k). (z, hz, (target q′ e′, refl, ex ∙ sym i)))
-      (step-on on-values new on-flags s (on .on) (λ q′ z x (j, hj, eqs). eqs .0) p))
+  -- so that shifts and gotos from the terminals that are listed are those from every terminal
+  pub leaves-by-list : (table on : List ℕ) (q : ℕ) {rows from left offsets costs : List ℕ} {bound n : ℕ} {K M L : ℕ → ℕ → ℕ} → Skips σ (tablesOf cells) (claimIn d table) rows → ¬ (flagIn on q ≡ 0)
+      → TerminalsListed (d .t) bound (layerRow q) rows from (d .t) left offsets costs n
+      → TableStep σ (Upto (λ j. ByShift σ d want (tablesOf cells) q (getD left j 0) (getD costs j 0)) n) K M
+      → TableStep σ (Upto (λ X. Upto (λ j. Enters σ d want (tablesOf cells .goto q X) table (crossingRows d q + X * (d .t * d .t) + getD offsets j 0) (getD costs j 0)) n) (d .n)) M L
+      → TableStep σ (LeavesState σ d want (tablesOf cells) (claimIn d table) (cutAt σ bound (valueIn σ from on)) q) K L
+  unfolding claimIn
+  leaves-by-list table on q {rows} {from} {left} {offsets} {costs} {bound} {n} k o l s g = step-among
+      (λ q′ z w. ⊎-elim
+      (λ (j, hj, (e, hz, ew, on)). (getD left j 0, l .each j hj .below, inl (e, hz, rw (cost j hj) ew, on)))
+      (λ (X, hX, (j, hj, (e, hz, ew, on))). (getD left j 0, l .each j hj .below, inr (X, hX, (e, hz, rw (cost j hj, begins X j hj) ew, on)))))
+      (λ q′ z w (b, hb, x) h u. listed q′ z w b hb x (l .all b hb (near b hb x u) (λ c. leaves-skipped q b _ q′ z w k c hb x u)))
+      (step-join s g)
     where
-      target : (q′ : ℕ) → tablesOf cells .act q a ≡ Shift q′ → q′ ≡ s
-      target q′ e′ = cc
+      cost : (j : ℕ) → j < n → cutAt σ bound (valueIn σ from on) q (getD left j 0) ≡ getD costs j 0
+      cost j hj = let e = l .each j hj in rw (value-read σ from on q (getD left j 0) o, ← e .read) (cut-within σ bound (getD costs j 0) (e .near))
 
-  pub step-no-shift : (q a v : ℕ) {L : ℕ → ℕ → ℕ} → ((s : ℕ) → tablesOf cells .act q a ≡ Shift s → ⊥) → TableStep σ (ByShift σ d want (tablesOf cells) q a v) L L
-  step-no-shift q a v f = step-none (λ q′ z w x l u. f q′ (x .0))
+      begins : (X j : ℕ) → j < n → crossingRow d q X (getD left j 0) ≡ crossingRows d q + X * (d .t * d .t) + getD offsets j 0
+      begins X j hj = rw (l .each j hj .begins) (crossing-split d q X (getD left j 0))
 
-  pub step-shift-unwanted : (q a v : ℕ) {s : ℕ} {L : ℕ → ℕ → ℕ} → tablesOf cells .act q a ≡ Shift s → getD want s 0 ≡ 0 → TableStep σ (ByShift σ d want (tablesOf cells) q a v) L L
-  step-shift-unwanted q a v {s} e k = step-none (λ q′ z w (f, hz, ew, x) l u. let i : q′ ≡ s = cc in x .on (rw i k))
+      near : {q′ z w : ℕ} (b : ℕ) → b < d .t → Leaves σ d want (tablesOf cells) (claimIn d table) q b (cutAt σ bound (valueIn σ from on) q b) q′ z w → w < unreached σ → getD from (layerRow q + b) 0 ≤ bound
+      near {q′} {z} {w} b hb x u = go (decLt bound (getD from (layerRow q + b) 0))
+        where
+          go : Dec (bound < getD from (layerRow q + b) 0) → getD from (layerRow q + b) 0 ≤ bound
+          go (yes f) = absurd (leaves-far σ d want (tablesOf cells) (claimIn d table) q b _ q′ z w (rw (value-read σ from on q b o, cut-beyond σ bound _ f) (omega arith)) x u)
+          go (no f) = omega arith
+
+      listed : (q′ z w b : ℕ) → b < d .t → Leaves σ d want (tablesOf cells) (claimIn d table) q b (cutAt σ bound (valueIn σ from on) q b) q′ z w → (j : ℕ) × (j < n) × (getD left j 0 ≡ b)
+          → Upto (λ j. ByShift σ d want (tablesOf cells) q (getD left j 0) (getD costs j 0)) n q′ z w ⊎ Upto (λ X. Upto (λ j. Enters σ d want (tablesOf cells .goto q X) table (crossingRows d q + X * (d .t * d .t) + getD offsets j 0) (getD costs j 0)) n) (d .n) q′ z w
+      listed q′ z w b hb x (j, hj, f) = ⊎-elim
+          (λ (e, hz, ew, on). inl (j, hj, (e, hz, rw (← cost j hj) ew, on)))
+          (λ (X, hX, (e, hz, ew, on)). inr (X, hX, (j, hj, (e, hz, rw (← cost j hj, ← begins X j hj) ew, on))))
+          (rw (← f) at x)
 
   -- from every state, over a layer that was unreached everywhere
   pub lengthened : (claim : Claims) (L : ℕ → ℕ → ℕ) {K L′ : ℕ → ℕ → ℕ} → ((q z : ℕ) → K q z ≡ unreached σ) → TableStep σ (Upto (LeavesState σ d want (tablesOf cells) claim L) (d .s)) K L′
@@ -104,15 +121,26 @@ module _ {σ : Scale} {d : Sizes} {cells want : List ℕ} (h : Holds d cells) wh
           (λ (X, hX, (g, hz, ex, k)). rw ex (add-goto X b z (terminal hb) g (terminal hz)))
           c
 
--- .. and so does a goto, by the row of the crossing table
-pub step-goto : {σ : Scale} (d : Sizes) (cells : List ℕ) (q a v X : ℕ) {g start : ℕ} (table old flags on-values on-flags new : List ℕ) → tablesOf cells .goto q X ≡ suc g → start ≡ crossingRow d q X a → TurnedOn σ g old flags on-values on-flags
-    → TableStep σ (Upto (Relaxed σ g table start v) (d .t)) (entryIn on-values) (entryIn new)
-    → TableStep σ (Goes σ d (tablesOf cells) (claimIn d table) q a v X) (valueIn σ old flags) (valueIn σ new on-flags)
-unfolding claimIn
-step-goto d cells q a v X {g} {start} table old flags on-values on-flags new e i on p = step-from (on .same) (step-as
-    (λ q′ z w (j, hj, (eq, ez, ew)). (rw eq e, rw ez hj, rw (ez, ← i) ew))
-    (λ q′ z w (e′, hz, ew). (z, hz, (omega arith, refl, rw i ew)))
-    (step-on on-values new on-flags g (on .on) (λ q′ z w (j, hj, eqs). eqs .0) p))
+module _ {σ : Scale} (d : Sizes) {want : List ℕ} where
+  -- a shift lowers the row of its target ..
+  pub step-shift : {x : Action} {s : ℕ} (w : ℕ) (old flags on-values on-flags new : List ℕ) → x ≡ Shift s → Wanted want s → TurnedOn σ s old flags on-values on-flags
+      → TableStep σ (Upto (Level s w) (d .t)) (entryIn on-values) (entryIn new) → TableStep σ (Shifts d want x w) (valueIn σ old flags) (valueIn σ new on-flags)
+  step-shift {x} {s} w old flags on-values on-flags new e u on p = step-from (on .same) (step-as
+      (λ q′ z v (j, hj, (eq, ez, ev)). (rw eq e, rw ez hj, ev, rw eq u))
+      (λ q′ z v (e′, hz, ev, k). (z, hz, (target q′ e′, refl, ev)))
+      (step-on on-values new on-flags s (on .on) (λ q′ z v (j, hj, eqs). eqs .0) p))
+    where
+      target : (q′ : ℕ) → x ≡ Shift q′ → q′ ≡ s
+      target q′ e′ = cc
+
+  -- .. and so does a goto, by rows of claims
+  pub step-goto : {target g : ℕ} (table : List ℕ) (start : ℕ) (offsets costs : List ℕ) {n : ℕ} (old flags on-values on-flags new : List ℕ) → target ≡ suc g → Wanted want g → TurnedOn σ g old flags on-values on-flags
+      → TableStep σ (Upto (λ j. Upto (Relaxed σ g table (start + getD offsets j 0) (getD costs j 0)) (d .t)) n) (entryIn on-values) (entryIn new)
+      → TableStep σ (Upto (λ j. Enters σ d want target table (start + getD offsets j 0) (getD costs j 0)) n) (valueIn σ old flags) (valueIn σ new on-flags)
+  step-goto table start offsets costs old flags on-values on-flags new e k on p = step-from (on .same) (step-as
+      (λ q′ z w (j, hj, (i, hi, (eq, ez, ew))). (j, hj, (rw eq e, rw ez hi, rw ez ew, rw eq k)))
+      (λ q′ z w (j, hj, (e′, hz, ew, on)). (j, hj, (z, hz, (omega (arith, e, e′), refl, ew))))
+      (step-on on-values new on-flags _ (on .on) (λ q′ z w (j, hj, (i, hi, eqs)). eqs .0) p))
 
 module _ {σ : Scale} {d : Sizes} {cells : List ℕ} (h : Holds d cells) where
   -- transitions lead to states of the book

@@ -1,12 +1,14 @@
 pub mod ActionLaws
-pub mod GotoList
-pub mod GotoListLaws
+pub mod Leaving
+pub mod LeavingLaws
 pub mod Layer
 pub mod LayerLaws
 pub mod Opening
 pub mod OpeningLaws
 pub mod Crossing
 pub mod CrossingLaws
+pub mod Starts
+pub mod StartsLaws
 pub mod States
 pub mod StatesLaws
 pub mod Step

@@ -2,9 +2,10 @@
 use mathlib.Core.List.{List}
 use mathlib.Core.Logic.{_⊎_}
 use mathlib.Core.Path.{_≡_}
-use Prim.Native.Nat.{ℕ, suc, _+_, _≤_, _<_}
-use lib.ListN.{getD}
+use Prim.Native.Nat.{ℕ, zero, suc, _+_, _≤_, _<_, min}
+use lib.ListN.{getD, set}
 use Rattle.book.specs.Tables.{Tables}
+use Rattle.book.specs.declared.Action.{Action}
 use Rattle.book.specs.declared.Action.the-variants.{Shift}
 use Rattle.book.specs.declared.Sizes.{Sizes}
 use Rattle.walk.specs.Scale.{Scale, unreached}
@@ -30,13 +31,23 @@ Level g v j q z w = (q ≡ g) × (z ≡ j) × (w ≡ v)
 abbrev pub Relaxed : Scale → ℕ → List ℕ → ℕ → ℕ → ℕ → ℕ → ℕ → ℕ → Type 0
 Relaxed σ g row start v j q z w = (q ≡ g) × (z ≡ j) × (w ≡ plus σ v (getD row (start + j) 0))
 
--- from (q₁, b), reached at the cost v, by the goto under X
-abbrev pub Goes : Scale → Sizes → Tables → Claims → ℕ → ℕ → ℕ → ℕ → ℕ → ℕ → ℕ → Type 0
-Goes σ d B claim q₁ b v X q z w = (B .goto q₁ X ≡ suc q) × (z < d .t) × (w ≡ plus σ v (claim q₁ X b z))
+-- what `relax` leaves of l: the first t entries of the row that begins at `row` are lowered to these sums
+unfoldable pub relaxed : Scale → List ℕ → ℕ → List ℕ → ℕ → ℕ → ℕ → List ℕ
+relaxed σ l row table start v zero = l
+relaxed σ l row table start v (suc t) =
+    let k = relaxed σ l row table start v t in
+    set k (row + t) (min (getD k (row + t) 0) (plus σ v (getD table (start + t) 0)))
 
--- .. to a wanted state: by the shift of b, and by the goto under X
+-- to a wanted state: by an action, at the cost v, and by a goto that leads to `target` - 1, at the sums of v and a row of claims
+abbrev pub Shifts : Sizes → List ℕ → Action → ℕ → ℕ → ℕ → ℕ → Type 0
+Shifts d want x v q z w = (x ≡ Shift q) × (z < d .t) × (w ≡ v) × Wanted want q
+
+abbrev pub Enters : Scale → Sizes → List ℕ → ℕ → List ℕ → ℕ → ℕ → ℕ → ℕ → ℕ → Type 0
+Enters σ d want target row start v q z w = (target ≡ suc q) × (z < d .t) × (w ≡ plus σ v (getD row (start + z) 0)) × Wanted want q
+
+-- from (q₁, b), reached at the cost v: by the shift of b, and by the goto under X
 abbrev pub ByShift : Scale → Sizes → List ℕ → Tables → ℕ → ℕ → ℕ → ℕ → ℕ → ℕ → Type 0
-ByShift σ d want B q₁ b v q z w = (B .act q₁ b ≡ Shift q) × (z < d .t) × (w ≡ plus σ v (shiftCost σ b)) × Wanted want q
+ByShift σ d want B q₁ b v = Shifts d want (B .act q₁ b) (plus σ v (shiftCost σ b))
 
 abbrev pub ByGoto : Scale → Sizes → List ℕ → Tables → Claims → ℕ → ℕ → ℕ → ℕ → ℕ → ℕ → ℕ → Type 0
 ByGoto σ d want B claim q₁ b v X q z w = (B .goto q₁ X ≡ suc q) × (z < d .t) × (w ≡ plus σ v (claim q₁ X b z)) × Wanted want q

@@ -1,7 +1,8 @@
 // Layers: the least costs to stand at each state and next terminal after a number of transitions.
-mod goto_list;
+mod leaving;
 mod opening;
 mod row;
+mod starts;
 mod states;
 mod transition;
 
