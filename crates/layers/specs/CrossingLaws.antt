@@ -11,7 +11,7 @@ use Rattle.book.specs.Tables.{tablesOf}
 use Rattle.book.specs.TablesLaws.{Holds, goto-some, left-side-below, length-most, lhs-inside, len-inside}
 use Rattle.book.specs.declared.Sizes.{Sizes}
 use Rattle.layers.specs.Crossing.{room, crossingRow, Fitted}
-use Rattle.layers.specs.Starts.{crossingRows}
+use Rattle.layers.specs.Starts.{crossingBlock}
 
 -- the sizes of the tables are those that the book says
 module _ {d : Sizes} {cells : List ℕ} (h : Holds d cells) where
@@ -65,12 +65,12 @@ pub row-fits : {d : Sizes} {cells table : List ℕ} {q X a start : ℕ} → Fitt
 row-fits {d} {q} {X} {a} u hq hX ha e = omega (arith, crossing-row-below d q X a hq hX ha, u .fits)
 
 -- where the row of (q, X, a) begins, by where the rows of q and those of X begin
-pub crossing-split : (d : Sizes) (q X a : ℕ) → crossingRow d q X a ≡ crossingRows d q + X * (d .t * d .t) + a * d .t
+pub crossing-split : (d : Sizes) (q X a : ℕ) → crossingRow d q X a ≡ crossingBlock d q X + a * d .t
 crossing-split d q X a = rw (add-mul ((q * d .n + X) * d .t) a (d .t), mul-assoc (q * d .n + X) (d .t) (d .t), add-mul (q * d .n) X (d .t * d .t), mul-assoc q (d .n) (d .t * d .t))
 
 -- .. and that a row of it lies within the table
 pub rows-fit : {d : Sizes} {cells table : List ℕ} {q X : ℕ} (offset : ℕ) → Fitted d cells table → q < d .s → X < d .n → offset + d .t ≤ d .t * d .t
-    → crossingRows d q + X * (d .t * d .t) + offset + d .t ≤ length table
+    → crossingBlock d q X + offset + d .t ≤ length table
 rows-fit {d} {q} {X} offset u hq hX ho =
     let below = row-below (d .s * d .n) (d .t * d .t) (q * d .n + X) (index-below (d .s) (d .n) q X hq hX) in
     omega (arith, below, u .fits, mul-assoc (d .s * d .n) (d .t) (d .t), add-mul (q * d .n) X (d .t * d .t), mul-assoc q (d .n) (d .t * d .t))

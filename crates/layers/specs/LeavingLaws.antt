@@ -6,18 +6,18 @@ use native.Mathlib.Decide.{ℕ-discrete}
 use native.Mathlib.Omega.{arith}
 use lib.ListN.{length, getD, set, length-set}
 use lib.Seq.{getD-set-same, getD-set-other}
-use Rattle.layers.specs.Leaving.{LeftAt, TerminalsListed}
+use Rattle.layers.specs.Leaving.{Leaving, TerminalsListed}
 
-pub terminals-none : {t bound row : ℕ} {rows from left offsets costs : List ℕ} → (length left ≡ 32) × (length offsets ≡ 32) × (length costs ≡ 32)
-    → TerminalsListed t bound row rows from 0 left offsets costs 0
+pub terminals-none : {t bound row : ℕ} {rows from terminals offsets costs : List ℕ} → (length terminals ≡ 32) × (length offsets ≡ 32) × (length costs ≡ 32)
+    → TerminalsListed t bound row rows from 0 terminals offsets costs 0
 terminals-none s = record { sizes = s; few = omega arith; each = λ j h. absurd (omega arith); all = λ b h near on. absurd (omega arith) }
 
-module _ {t bound row : ℕ} {rows from : List ℕ} {i : ℕ} {left offsets costs : List ℕ} {n : ℕ} (l : TerminalsListed t bound row rows from i left offsets costs n) where
-  later : (b offset cost : ℕ) → LeftAt t bound row from i b offset cost → LeftAt t bound row from (i + 1) b offset cost
+module _ {t bound row : ℕ} {rows from : List ℕ} {i : ℕ} {terminals offsets costs : List ℕ} {n : ℕ} (l : TerminalsListed t bound row rows from i terminals offsets costs n) where
+  later : (b offset cost : ℕ) → Leaving t bound row from i b offset cost → Leaving t bound row from (i + 1) b offset cost
   later b offset cost e = record { below = omega (arith, e .below); begins = e .begins; read = e .read; near = e .near }
 
   -- terminal i is left out ..
-  pub terminals-same : (getD from (row + i) 0 ≤ bound → getD rows (row + i) 0 ≡ 0) → TerminalsListed t bound row rows from (i + 1) left offsets costs n
+  pub terminals-same : (getD from (row + i) 0 ≤ bound → getD rows (row + i) 0 ≡ 0) → TerminalsListed t bound row rows from (i + 1) terminals offsets costs n
   terminals-same out = record {
     sizes = l .sizes;
     few = omega (arith, l .few);
@@ -25,14 +25,14 @@ module _ {t bound row : ℕ} {rows from : List ℕ} {i : ℕ} {left offsets cost
     all = λ b h near on. all b h near on (ℕ-discrete b i);
   }
     where
-      all : (b : ℕ) → b < i + 1 → getD from (row + b) 0 ≤ bound → ¬ (getD rows (row + b) 0 ≡ 0) → Dec (b ≡ i) → (j : ℕ) × (j < n) × (getD left j 0 ≡ b)
+      all : (b : ℕ) → b < i + 1 → getD from (row + b) 0 ≤ bound → ¬ (getD rows (row + b) 0 ≡ 0) → Dec (b ≡ i) → (j : ℕ) × (j < n) × (getD terminals j 0 ≡ b)
       all b h near on (yes e) = absurd (on (rw e (out (rw e at near))))
       all b h near on (no m) = l .all b (omega arith) near on
 
   -- .. or put at the end
-  pub terminals-more : {v : ℕ} → i < 32 → v ≡ getD from (row + i) 0 → v ≤ bound → TerminalsListed t bound row rows from (i + 1) (set left n i) (set offsets n (i * t)) (set costs n v) (n + 1)
+  pub terminals-more : {v : ℕ} → i < 32 → v ≡ getD from (row + i) 0 → v ≤ bound → TerminalsListed t bound row rows from (i + 1) (set terminals n i) (set offsets n (i * t)) (set costs n v) (n + 1)
   terminals-more {v} small e near = record {
-    sizes = (length-set left n i ∙ l .sizes .0, length-set offsets n (i * t) ∙ l .sizes .1, length-set costs n v ∙ l .sizes .2);
+    sizes = (length-set terminals n i ∙ l .sizes .0, length-set offsets n (i * t) ∙ l .sizes .1, length-set costs n v ∙ l .sizes .2);
     few = omega (arith, l .few);
     each = λ j h. each j h (ℕ-discrete j n);
     all = λ b h near on. all b h near on (ℕ-discrete b i);
@@ -41,12 +41,12 @@ module _ {t bound row : ℕ} {rows from : List ℕ} {i : ℕ} {left offsets cost
       here : (k : List ℕ) (x : ℕ) → length k ≡ 32 → getD (set k n x) n 0 ≡ x
       here k x s = getD-set-same k n x 0 (omega (arith, l .few))
 
-      each : (j : ℕ) → j < n + 1 → Dec (j ≡ n) → LeftAt t bound row from (i + 1) (getD (set left n i) j 0) (getD (set offsets n (i * t)) j 0) (getD (set costs n v) j 0)
-      each j h (yes f) = rw (f, here left i (l .sizes .0), here offsets (i * t) (l .sizes .1), here costs v (l .sizes .2)) (record { below = omega arith; begins = refl; read = e; near = near })
-      each j h (no m) = rw (getD-set-other left n j i 0 m, getD-set-other offsets n j (i * t) 0 m, getD-set-other costs n j v 0 m) (later _ _ _ (l .each j (omega arith)))
+      each : (j : ℕ) → j < n + 1 → Dec (j ≡ n) → Leaving t bound row from (i + 1) (getD (set terminals n i) j 0) (getD (set offsets n (i * t)) j 0) (getD (set costs n v) j 0)
+      each j h (yes f) = rw (f, here terminals i (l .sizes .0), here offsets (i * t) (l .sizes .1), here costs v (l .sizes .2)) (record { below = omega arith; begins = refl; read = e; near = near })
+      each j h (no m) = rw (getD-set-other terminals n j i 0 m, getD-set-other offsets n j (i * t) 0 m, getD-set-other costs n j v 0 m) (later _ _ _ (l .each j (omega arith)))
 
-      all : (b : ℕ) → b < i + 1 → getD from (row + b) 0 ≤ bound → ¬ (getD rows (row + b) 0 ≡ 0) → Dec (b ≡ i) → (j : ℕ) × (j < n + 1) × (getD (set left n i) j 0 ≡ b)
-      all b h near on (yes f) = (n, omega arith, here left i (l .sizes .0) ∙ sym f)
+      all : (b : ℕ) → b < i + 1 → getD from (row + b) 0 ≤ bound → ¬ (getD rows (row + b) 0 ≡ 0) → Dec (b ≡ i) → (j : ℕ) × (j < n + 1) × (getD (set terminals n i) j 0 ≡ b)
+      all b h near on (yes f) = (n, omega arith, here terminals i (l .sizes .0) ∙ sym f)
       all b h near on (no m) =
           let (j, k, f) = l .all b (omega arith) near on in
-          (j, omega arith, getD-set-other left n j i 0 (λ g. omega (arith, g, k)) ∙ f)
+          (j, omega arith, getD-set-other terminals n j i 0 (λ g. omega (arith, g, k)) ∙ f)

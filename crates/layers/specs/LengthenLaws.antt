@@ -1,8 +1,8 @@
--- Laws of `lengthen`: rows that may be left out, and that passes over every state make the longer layer. Assumes nothing.
+-- Laws of `lengthen`: rows that may be terminals out, and that passes over every state make the longer layer. Assumes nothing.
 use mathlib.Core.List.{List}
 use mathlib.Core.Logic.{_⊎_, inl, inr, ⊎-elim}
-use mathlib.Core.Path.{_≡_, refl, sym, _∙_}
-use Prim.Native.Nat.{ℕ, suc, _+_, _*_, _≤_, _<_}
+use mathlib.Core.Path.{_≡_, refl, _∙_}
+use Prim.Native.Nat.{ℕ, suc, _+_, _≤_, _<_}
 use native.Mathlib.Decide.{ℕ-discrete, decLt}
 use native.Mathlib.Omega.{arith}
 use lib.ListN.{getD, replicate, getD-replicate}
@@ -23,9 +23,9 @@ use Rattle.layers.specs.States.{flagIn, listedIn, Listed}
 use Rattle.layers.specs.Crossing.{crossingRow, claimIn}
 use Rattle.layers.specs.CrossingLaws.{terminals-are, states-are, crossing-split}
 use Rattle.layers.specs.Opening.{rowIn, Skips}
-use Rattle.layers.specs.Starts.{layerRow, crossingRows}
-use Rattle.layers.specs.Step.{TableStep, Upto, Level, Relaxed, Shifts, Enters, ByShift, Leaves, LeavesState}
-use Rattle.layers.specs.StepLaws.{step-none, step-among, step-as, step-join, step-on, step-from, step-listed}
+use Rattle.layers.specs.Starts.{layerRow, crossingBlock}
+use Rattle.layers.specs.Step.{TableStep, Upto, Level, Shifts, Leaves, LeavesState, RelaxedBy, ShiftsBy, EntersBy, GotosBy}
+use Rattle.layers.specs.StepLaws.{step-among, step-as, step-join, step-on, step-from, step-listed}
 
 module _ (σ : Scale) (d : Sizes) (want : List ℕ) (B : Tables) (claim : Claims) where
   -- from an unreached entry nothing is reached
@@ -55,24 +55,24 @@ module _ {σ : Scale} {d : Sizes} {cells want : List ℕ} (h : Holds d cells) wh
       x
 
   -- so that shifts and gotos from the terminals that are listed are those from every terminal
-  pub leaves-by-list : (table on : List ℕ) (q : ℕ) {rows from left offsets costs : List ℕ} {bound n : ℕ} {K M L : ℕ → ℕ → ℕ} → Skips σ (tablesOf cells) (claimIn d table) rows → ¬ (flagIn on q ≡ 0)
-      → TerminalsListed (d .t) bound (layerRow q) rows from (d .t) left offsets costs n
-      → TableStep σ (Upto (λ j. ByShift σ d want (tablesOf cells) q (getD left j 0) (getD costs j 0)) n) K M
-      → TableStep σ (Upto (λ X. Upto (λ j. Enters σ d want (tablesOf cells .goto q X) table (crossingRows d q + X * (d .t * d .t) + getD offsets j 0) (getD costs j 0)) n) (d .n)) M L
+  pub leaves-by-list : (table on : List ℕ) (q : ℕ) {rows from terminals offsets costs : List ℕ} {bound n : ℕ} {K M L : ℕ → ℕ → ℕ} → Skips σ (tablesOf cells) (claimIn d table) rows → ¬ (flagIn on q ≡ 0)
+      → TerminalsListed (d .t) bound (layerRow q) rows from (d .t) terminals offsets costs n
+      → TableStep σ (ShiftsBy σ d want (tablesOf cells) q terminals costs n) K M
+      → TableStep σ (GotosBy σ d want (tablesOf cells) table q offsets costs n (d .n)) M L
       → TableStep σ (LeavesState σ d want (tablesOf cells) (claimIn d table) (cutAt σ bound (valueIn σ from on)) q) K L
   unfolding claimIn
-  leaves-by-list table on q {rows} {from} {left} {offsets} {costs} {bound} {n} k o l s g = step-among
+  leaves-by-list table on q {rows} {from} {terminals} {offsets} {costs} {bound} {n} k o l s g = step-among
       (λ q′ z w. ⊎-elim
-      (λ (j, hj, (e, hz, ew, on)). (getD left j 0, l .each j hj .below, inl (e, hz, rw (cost j hj) ew, on)))
-      (λ (X, hX, (j, hj, (e, hz, ew, on))). (getD left j 0, l .each j hj .below, inr (X, hX, (e, hz, rw (cost j hj, begins X j hj) ew, on)))))
+      (λ (j, hj, (e, hz, ew, on)). (getD terminals j 0, l .each j hj .below, inl (e, hz, rw (cost j hj) ew, on)))
+      (λ (X, hX, (j, hj, (e, hz, ew, on))). (getD terminals j 0, l .each j hj .below, inr (X, hX, (e, hz, rw (cost j hj, begins X j hj) ew, on)))))
       (λ q′ z w (b, hb, x) h u. listed q′ z w b hb x (l .all b hb (near b hb x u) (λ c. leaves-skipped q b _ q′ z w k c hb x u)))
       (step-join s g)
     where
-      cost : (j : ℕ) → j < n → cutAt σ bound (valueIn σ from on) q (getD left j 0) ≡ getD costs j 0
-      cost j hj = let e = l .each j hj in rw (value-read σ from on q (getD left j 0) o, ← e .read) (cut-within σ bound (getD costs j 0) (e .near))
+      cost : (j : ℕ) → j < n → cutAt σ bound (valueIn σ from on) q (getD terminals j 0) ≡ getD costs j 0
+      cost j hj = let e = l .each j hj in rw (value-read σ from on q (getD terminals j 0) o, ← e .read) (cut-within σ bound (getD costs j 0) (e .near))
 
-      begins : (X j : ℕ) → j < n → crossingRow d q X (getD left j 0) ≡ crossingRows d q + X * (d .t * d .t) + getD offsets j 0
-      begins X j hj = rw (l .each j hj .begins) (crossing-split d q X (getD left j 0))
+      begins : (X j : ℕ) → j < n → crossingRow d q X (getD terminals j 0) ≡ crossingBlock d q X + getD offsets j 0
+      begins X j hj = rw (l .each j hj .begins) (crossing-split d q X (getD terminals j 0))
 
       near : {q′ z w : ℕ} (b : ℕ) → b < d .t → Leaves σ d want (tablesOf cells) (claimIn d table) q b (cutAt σ bound (valueIn σ from on) q b) q′ z w → w < unreached σ → getD from (layerRow q + b) 0 ≤ bound
       near {q′} {z} {w} b hb x u = go (decLt bound (getD from (layerRow q + b) 0))
@@ -81,8 +81,8 @@ module _ {σ : Scale} {d : Sizes} {cells want : List ℕ} (h : Holds d cells) wh
           go (yes f) = absurd (leaves-far σ d want (tablesOf cells) (claimIn d table) q b _ q′ z w (rw (value-read σ from on q b o, cut-beyond σ bound _ f) (omega arith)) x u)
           go (no f) = omega arith
 
-      listed : (q′ z w b : ℕ) → b < d .t → Leaves σ d want (tablesOf cells) (claimIn d table) q b (cutAt σ bound (valueIn σ from on) q b) q′ z w → (j : ℕ) × (j < n) × (getD left j 0 ≡ b)
-          → Upto (λ j. ByShift σ d want (tablesOf cells) q (getD left j 0) (getD costs j 0)) n q′ z w ⊎ Upto (λ X. Upto (λ j. Enters σ d want (tablesOf cells .goto q X) table (crossingRows d q + X * (d .t * d .t) + getD offsets j 0) (getD costs j 0)) n) (d .n) q′ z w
+      listed : (q′ z w b : ℕ) → b < d .t → Leaves σ d want (tablesOf cells) (claimIn d table) q b (cutAt σ bound (valueIn σ from on) q b) q′ z w → (j : ℕ) × (j < n) × (getD terminals j 0 ≡ b)
+          → ShiftsBy σ d want (tablesOf cells) q terminals costs n q′ z w ⊎ GotosBy σ d want (tablesOf cells) table q offsets costs n (d .n) q′ z w
       listed q′ z w b hb x (j, hj, f) = ⊎-elim
           (λ (e, hz, ew, on). inl (j, hj, (e, hz, rw (← cost j hj) ew, on)))
           (λ (X, hX, (e, hz, ew, on)). inr (X, hX, (j, hj, (e, hz, rw (← cost j hj, ← begins X j hj) ew, on))))
@@ -135,8 +135,8 @@ module _ {σ : Scale} (d : Sizes) {want : List ℕ} where
 
   -- .. and so does a goto, by rows of claims
   pub step-goto : {target g : ℕ} (table : List ℕ) (start : ℕ) (offsets costs : List ℕ) {n : ℕ} (old flags on-values on-flags new : List ℕ) → target ≡ suc g → Wanted want g → TurnedOn σ g old flags on-values on-flags
-      → TableStep σ (Upto (λ j. Upto (Relaxed σ g table (start + getD offsets j 0) (getD costs j 0)) (d .t)) n) (entryIn on-values) (entryIn new)
-      → TableStep σ (Upto (λ j. Enters σ d want target table (start + getD offsets j 0) (getD costs j 0)) n) (valueIn σ old flags) (valueIn σ new on-flags)
+      → TableStep σ (RelaxedBy σ g table start offsets costs (d .t) n) (entryIn on-values) (entryIn new)
+      → TableStep σ (EntersBy σ d want target table start offsets costs n) (valueIn σ old flags) (valueIn σ new on-flags)
   step-goto table start offsets costs old flags on-values on-flags new e k on p = step-from (on .same) (step-as
       (λ q′ z w (j, hj, (i, hi, (eq, ez, ew))). (j, hj, (rw eq e, rw ez hi, rw ez ew, rw eq k)))
       (λ q′ z w (j, hj, (e′, hz, ew, on)). (j, hj, (z, hz, (omega (arith, e, e′), refl, ew))))

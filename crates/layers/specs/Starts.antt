@@ -16,3 +16,7 @@ gotoRow d q = 5 + 2 * d .p + d .s * d .t + q * d .n
 -- in the crossing table, where a nonterminal of the state has a row for each terminal
 abbrev pub crossingRows : Sizes → ℕ → ℕ
 crossingRows d q = q * (d .n * (d .t * d .t))
+
+-- .. and for nonterminal X of it
+abbrev pub crossingBlock : Sizes → ℕ → ℕ → ℕ
+crossingBlock d q X = crossingRows d q + X * (d .t * d .t)

@@ -12,6 +12,7 @@ use Rattle.walk.specs.Scale.{Scale, unreached}
 use Rattle.walk.specs.Sum.{plus, shiftCost}
 use Rattle.walk.specs.Claims.{Claims}
 use Rattle.layers.specs.Layer.{Wanted}
+use Rattle.layers.specs.Starts.{crossingBlock}
 
 -- `P q z w` says that w is a candidate for the entry (q, z). Each entry of `new` is the least of what it was and its candidates
 -- below unreached
@@ -52,9 +53,23 @@ ByShift σ d want B q₁ b v = Shifts d want (B .act q₁ b) (plus σ v (shiftCo
 abbrev pub ByGoto : Scale → Sizes → List ℕ → Tables → Claims → ℕ → ℕ → ℕ → ℕ → ℕ → ℕ → ℕ → Type 0
 ByGoto σ d want B claim q₁ b v X q z w = (B .goto q₁ X ≡ suc q) × (z < d .t) × (w ≡ plus σ v (claim q₁ X b z)) × Wanted want q
 
+-- from n terminals of q₁, each with its cost: by shifts, by the goto to `target` - 1 and by the gotos under the first of the
+-- nonterminals. The row of claims of each terminal stands at its offset
+abbrev pub ShiftsBy : Scale → Sizes → List ℕ → Tables → ℕ → List ℕ → List ℕ → ℕ → ℕ → ℕ → ℕ → Type 0
+ShiftsBy σ d want B q₁ terminals costs = Upto (λ j. ByShift σ d want B q₁ (getD terminals j 0) (getD costs j 0))
+
+abbrev pub RelaxedBy : Scale → ℕ → List ℕ → ℕ → List ℕ → List ℕ → ℕ → ℕ → ℕ → ℕ → ℕ → Type 0
+RelaxedBy σ g row start offsets costs t = Upto (λ j. Upto (Relaxed σ g row (start + getD offsets j 0) (getD costs j 0)) t)
+
+abbrev pub EntersBy : Scale → Sizes → List ℕ → ℕ → List ℕ → ℕ → List ℕ → List ℕ → ℕ → ℕ → ℕ → ℕ → Type 0
+EntersBy σ d want target row start offsets costs = Upto (λ j. Enters σ d want target row (start + getD offsets j 0) (getD costs j 0))
+
+abbrev pub GotosBy : Scale → Sizes → List ℕ → Tables → List ℕ → ℕ → List ℕ → List ℕ → ℕ → ℕ → ℕ → ℕ → ℕ → Type 0
+GotosBy σ d want B table q₁ offsets costs n = Upto (λ X. EntersBy σ d want (B .goto q₁ X) table (crossingBlock d q₁ X) offsets costs n)
+
+-- from (q₁, b), and from every terminal of a state in a layer
 abbrev pub Leaves : Scale → Sizes → List ℕ → Tables → Claims → ℕ → ℕ → ℕ → ℕ → ℕ → ℕ → Type 0
 Leaves σ d want B claim q₁ b v q z w = ByShift σ d want B q₁ b v q z w ⊎ Upto (ByGoto σ d want B claim q₁ b v) (d .n) q z w
 
--- from every terminal of a state in a layer
 abbrev pub LeavesState : Scale → Sizes → List ℕ → Tables → Claims → (ℕ → ℕ → ℕ) → ℕ → ℕ → ℕ → ℕ → Type 0
 LeavesState σ d want B claim L q₁ = Upto (λ b. Leaves σ d want B claim q₁ b (L q₁ b)) (d .t)

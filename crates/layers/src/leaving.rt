@@ -14,14 +14,14 @@ fn list_terminal(
     from: &[u16; 4096],
     row: usize,
     a: usize,
-    left: &mut [u8; 32],
+    terminals: &mut [u8; 32],
     offsets: &mut [usize; 32],
     costs: &mut [u16; 32],
     n: usize,
 ) -> usize
     requires { ⌜ (t ≤ 32) × (row + t ≤ 4096) × (a < t) ⌝ }
-    requires { ⌜ TerminalsListed t bound row (now rows) (now from) a (now left) (now offsets) (now costs) n ⌝ }
-    ensures { λ r. ⌜ TerminalsListed t bound row (now (rows .entry)) (now (from .entry)) (a + 1) (now (left .exit)) (now (offsets .exit)) (now (costs .exit)) r ⌝ }
+    requires { ⌜ TerminalsListed t bound row (now rows) (now from) a (now terminals) (now offsets) (now costs) n ⌝ }
+    ensures { λ r. ⌜ TerminalsListed t bound row (now (rows .entry)) (now (from .entry)) (a + 1) (now (terminals .exit)) (now (offsets .exit)) (now (costs .exit)) r ⌝ }
 {
     let v = from[row + a];
     if v > bound {
@@ -30,7 +30,7 @@ fn list_terminal(
     if rows[row + a] == 0 {
         return n;
     }
-    left[n] = a as u8;
+    terminals[n] = a as u8;
     offsets[n] = a * t;
     costs[n] = v;
     n + 1
@@ -43,19 +43,19 @@ pub fn list_terminals(
     bound: u16,
     from: &[u16; 4096],
     q: usize,
-    left: &mut [u8; 32],
+    terminals: &mut [u8; 32],
     offsets: &mut [usize; 32],
     costs: &mut [u16; 32],
 ) -> usize
     requires { ⌜ (t ≤ 32) × (q < 128) ⌝ }
-    requires { ⌜ (length (now left) ≡ 32) × (length (now offsets) ≡ 32) × (length (now costs) ≡ 32) ⌝ }
-    ensures { λ r. ⌜ TerminalsListed t bound (layerRow q) (now (rows .entry)) (now (from .entry)) t (now (left .exit)) (now (offsets .exit)) (now (costs .exit)) r ⌝ }
+    requires { ⌜ (length (now terminals) ≡ 32) × (length (now offsets) ≡ 32) × (length (now costs) ≡ 32) ⌝ }
+    ensures { λ r. ⌜ TerminalsListed t bound (layerRow q) (now (rows .entry)) (now (from .entry)) t (now (terminals .exit)) (now (offsets .exit)) (now (costs .exit)) r ⌝ }
 {
     let row = layer_row(q);
     let mut n: usize = 0;
     let mut a: usize = 0;
     while a < t {
-        n = list_terminal(t, rows, bound, from, row, a, left, offsets, costs, n);
+        n = list_terminal(t, rows, bound, from, row, a, terminals, offsets, costs, n);
         a += 1;
     }
     n

@@ -2,6 +2,7 @@
 ghost use mathlib.Core.Path.{_≡_};
 ghost use Prim.Native.Nat.{_*_, _≤_, _<_};
 ghost use Rattle.book.specs.RangeLaws.{Small};
+ghost use Rattle.layers.specs.Crossing.{crossingRow};
 ghost use Rattle.layers.specs.Starts.{layerRow, actionRow, gotoRow, crossingRows};
 use book::Sizes;
 
@@ -58,4 +59,15 @@ pub fn crossing_rows(d: Sizes, q: usize) -> usize
     let t = d.t;
     let n = d.n;
     row_start(q, row_start(n, block(t)))
+}
+
+// Where the row of (q, x, a) begins in the crossing table.
+pub fn crossing_row(d: Sizes, q: usize, x: usize, a: usize) -> usize
+    requires { ⌜ Small d ⌝ }
+    requires { ⌜ (q < d .s) × (x < d .n) × (a < d .t) ⌝ }
+    ensures { λ r. ⌜ r ≡ crossingRow d q x a ⌝ }
+{
+    let t = d.t;
+    let n = d.n;
+    ((q * n + x) * t + a) * t
 }

@@ -1,7 +1,6 @@
 -- `layers::leaving::list_terminals` meets its contract. Assumes nothing.
 use native.Mathlib.Omega.{arith}
 use native.Mathlib.Nat.{le-antisymm}
-use mathlib.Core.Path.{_≡_}
 use Prim.Native.Nat.{_-_, _≤_}
 use Rattle.layers.specs.Leaving.{TerminalsListed}
 use Rattle.layers.specs.LeavingLaws.{terminals-none}
@@ -10,10 +9,10 @@ use Rattle.layers.proofs.leaving.list_terminals.Statement.{statement}
 use Rattle.layers.proofs.leaving.list_terminals.Tie as tie
 
 abbrev Inv-loop : tie.InvT-loop
-Inv-loop t rows bound from q left₀ offsets₀ costs₀ row n₀ a₀ left offsets costs n a = (a ≤ t) × TerminalsListed t bound row rows from a left offsets costs n
+Inv-loop t rows bound from q terminals₀ offsets₀ costs₀ row n₀ a₀ terminals offsets costs n a = (a ≤ t) × TerminalsListed t bound row rows from a terminals offsets costs n
 
 abbrev μ-loop : tie.MeasureT-loop
-μ-loop t rows bound from q left₀ offsets₀ costs₀ row n₀ a₀ left offsets costs n a = t - a
+μ-loop t rows bound from q terminals₀ offsets₀ costs₀ row n₀ a₀ terminals offsets costs n a = t - a
 
 loop-holds : tie.Need-loop-holds Inv-loop μ-loop
 loop-holds c = (omega arith, terminals-none (c .before .pre .1))

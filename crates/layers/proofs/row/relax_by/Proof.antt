@@ -1,18 +1,18 @@
 -- `layers::row::relax_by` meets its contract. Assumes nothing.
 use native.Mathlib.Omega.{arith}
 use mathlib.Core.Path.{_≡_, _∙_}
-use Prim.Native.Nat.{_+_, _-_, _≤_}
-use lib.ListN.{length, getD}
+use Prim.Native.Nat.{_-_, _≤_}
+use lib.ListN.{length}
 use Rattle.walk.specs.Scale.{plain}
 use Rattle.layers.specs.Layer.{entryIn}
-use Rattle.layers.specs.Step.{TableStep, Upto, Relaxed}
+use Rattle.layers.specs.Step.{TableStep, RelaxedBy}
 use Rattle.layers.specs.StepLaws.{step-zero, step-more, step-done, step-relaxed, relaxed-size}
 use borrow.Author.Needs.{needs}
 use Rattle.layers.proofs.row.relax_by.Statement.{statement}
 use Rattle.layers.proofs.row.relax_by.Tie as tie
 
 abbrev Inv-loop : tie.InvT-loop
-Inv-loop values₀ g table start t offsets costs n row k₀ values k = (k ≤ n) × (length values ≡ 4096) × TableStep plain (Upto (λ j. Upto (Relaxed plain g table (start + getD offsets j 0) (getD costs j 0)) t) k) (entryIn values₀) (entryIn values)
+Inv-loop values₀ g table start t offsets costs n row k₀ values k = (k ≤ n) × (length values ≡ 4096) × TableStep plain (RelaxedBy plain g table start offsets costs t k) (entryIn values₀) (entryIn values)
 
 abbrev μ-loop : tie.MeasureT-loop
 μ-loop values₀ g table start t offsets costs n row k₀ values k = n - k

@@ -2,7 +2,6 @@
 use native.Mathlib.Omega.{arith}
 use mathlib.Core.Path.{refl}
 use Rattle.book.specs.IndexLaws.{mul-small}
-use borrow.Author.Needs.{needs}
 use Rattle.layers.proofs.starts.row_start.Statement.{statement}
 use Rattle.layers.proofs.starts.row_start.Tie as tie
 

@@ -1,4 +1,4 @@
--- `layers::transition::goto_to` meets its contract. Assumes nothing.
+-- `layers::transition::take_goto` meets its contract. Assumes nothing.
 use native.Mathlib.Omega.{arith}
 use mathlib.Core.Path.{_≡_}
 use Prim.Native.Nat.{_-_, _<_}
@@ -6,8 +6,8 @@ use Rattle.layers.specs.LayerLaws.{sized-most}
 use Rattle.layers.specs.LengthenLaws.{step-goto}
 use Rattle.layers.specs.StepLaws.{step-none}
 use borrow.Author.Needs.{needs}
-use Rattle.layers.proofs.transition.goto_to.Statement.{statement}
-use Rattle.layers.proofs.transition.goto_to.Tie as tie
+use Rattle.layers.proofs.transition.take_goto.Statement.{statement}
+use Rattle.layers.proofs.transition.take_goto.Tie as tie
 
 returns : tie.Need-returns
 returns c = (c .before .before .before .pre .1 .1 .1, step-none (λ q z w (j, hj, (e, hz, ew, k)) h u. omega (arith, e, c .if1 .taken)))
@@ -31,6 +31,6 @@ relax-by-requires c κs = ((target (c .before .before .before .before .before .b
 returns-3 : tie.Need-returns-3
 returns-3 c = (record { size = c .relax-by .ensures .0; listed = c .before .before .turn-on .ensures .0 _ (target (c .before .before .before .before .before .before .before) .0) (c .before .before .before .before .before .before .before .before .before .before .pre .1 .1 .1) .listed }, step-goto (c .before .before .before .before .before .before .before .before .before .before .args .d) (c .before .before .before .before .before .before .before .before .before .before .args .table .now) (c .before .before .before .before .before .before .before .before .before .before .args .start) (c .before .before .before .before .before .before .before .before .before .before .args .offsets .now) (c .before .before .before .before .before .before .before .before .before .before .args .costs .now) _ _ _ _ _ (omega (arith, c .before .before .before .before .before .before .before .if1 .left)) (record { on = c .before .before .before .before .before .if2 .left }) (c .before .before .turn-on .ensures .1) (c .relax-by .ensures .1))
 
-pub goto-to-spec : {M : Type 1} → statement M
-goto-to-spec =
+pub take-goto-spec : {M : Type 1} → statement M
+take-goto-spec =
     tie.close (tie.spec returns (λ c. search needs) (λ c. search needs) shared-slice-read-if2 returns-2 turn-on-requires relax-by-requires returns-3)

@@ -1,4 +1,4 @@
--- `layers::transition::shift_to` meets its contract. Assumes nothing.
+-- `layers::transition::take_shift` meets its contract. Assumes nothing.
 use native.Mathlib.Omega.{arith}
 use Prim.Native.Nat.{_<_}
 use Rattle.layers.specs.ActionLaws.{error-shiftless, accept-shiftless, reduce-shiftless}
@@ -7,8 +7,8 @@ use Rattle.layers.specs.LengthenLaws.{step-shift}
 use Rattle.layers.specs.StepLaws.{step-none}
 use mathlib.Core.Path.{_≡_, refl}
 use borrow.Author.Needs.{needs}
-use Rattle.layers.proofs.transition.shift_to.Statement.{statement}
-use Rattle.layers.proofs.transition.shift_to.Tie as tie
+use Rattle.layers.proofs.transition.take_shift.Statement.{statement}
+use Rattle.layers.proofs.transition.take_shift.Tie as tie
 
 -- the state that is shifted to
 target : (c : tie.After-action) → (c .action .given .0 .0 < c .before .before .before .args .d .s) × (c .action .given .0 .0 < 128)
@@ -38,8 +38,8 @@ returns-4 c = (c .before .before .before .pre .1 .1 .1, step-none (λ q z w (e, 
 returns-5 : tie.Need-returns-5
 returns-5 c = (c .before .before .before .pre .1 .1 .1, step-none (λ q z w (e, hz, ew, k) h u. reduce-shiftless refl (c .enum-told3 .given .1) q e))
 
-pub shift-to-spec : {M : Type 1} → statement M
-shift-to-spec =
+pub take-shift-spec : {M : Type 1} → statement M
+take-shift-spec =
     tie.close
     (tie.spec
     (λ c. search needs)
