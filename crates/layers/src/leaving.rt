@@ -15,7 +15,7 @@ fn list_terminal(
     row: usize,
     a: usize,
     terminals: &mut [u8; 32],
-    offsets: &mut [usize; 32],
+    offsets: &mut [u16; 32],
     costs: &mut [u16; 32],
     n: usize,
 ) -> usize
@@ -27,12 +27,13 @@ fn list_terminal(
     if v > bound {
         return n;
     }
+    // Put down before the flag is read, so that no jump depends on it: it often changes from terminal to terminal.
+    terminals[n] = a as u8;
+    offsets[n] = (a * t) as u16;
+    costs[n] = v;
     if rows[row + a] == 0 {
         return n;
     }
-    terminals[n] = a as u8;
-    offsets[n] = a * t;
-    costs[n] = v;
     n + 1
 }
 
@@ -44,7 +45,7 @@ pub fn list_terminals(
     from: &[u16; 4096],
     q: usize,
     terminals: &mut [u8; 32],
-    offsets: &mut [usize; 32],
+    offsets: &mut [u16; 32],
     costs: &mut [u16; 32],
 ) -> usize
     requires { ⌜ (t ≤ 32) × (q < 128) ⌝ }

@@ -20,6 +20,9 @@ abbrev μ-loop : tie.MeasureT-loop
 loop-holds : tie.Need-loop-holds Inv-loop μ-loop
 loop-holds c = (omega arith, c .before .before .pre .0 .3, step-zero)
 
+cast-relax : tie.Need-cast-relax Inv-loop μ-loop
+cast-relax c = omega (arith, c .before .before .before .before .before .before .pre .1 _ (c .before .before .loop-test .taken))
+
 add-relax : tie.Need-add-relax Inv-loop μ-loop
 add-relax c = omega (arith, c .before .before .before .before .before .before .pre .1 _ (c .before .before .loop-test .taken))
 
@@ -42,6 +45,7 @@ relax-by-spec =
     loop-holds
     (λ c. search needs)
     (λ c. search needs)
+    cast-relax
     add-relax
     (λ c. search needs)
     (λ c. search needs)
