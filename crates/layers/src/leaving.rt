@@ -23,15 +23,15 @@ fn list_terminal(
     requires { ⌜ TerminalsListed t bound row (now rows) (now from) a (now terminals) (now offsets) (now costs) n ⌝ }
     ensures { λ r. ⌜ TerminalsListed t bound row (now (rows .entry)) (now (from .entry)) (a + 1) (now (terminals .exit)) (now (offsets .exit)) (now (costs .exit)) r ⌝ }
 {
-    let v = from[row + a];
-    if v > bound {
+    if rows[row + a] == 0 {
         return n;
     }
-    // Put down before the flag is read, so that no jump depends on it: it often changes from terminal to terminal.
+    let v = from[row + a];
+    // Put down before the cost is looked at, so that no jump depends on it: in a full layer it cannot be foreseen.
     terminals[n] = a as u8;
     offsets[n] = (a * t) as u16;
     costs[n] = v;
-    if rows[row + a] == 0 {
+    if v > bound {
         return n;
     }
     n + 1

@@ -9,14 +9,14 @@ use Rattle.layers.proofs.leaving.list_terminal.Statement.{statement}
 use Rattle.layers.proofs.leaving.list_terminal.Tie as tie
 
 returns : tie.Need-returns
-returns c = terminals-same (c .before .before .pre .1) (λ near. absurd (omega (arith, c .if1 .taken)))
+returns c = terminals-same (c .before .before .pre .1) (λ near. c .if1 .taken)
 
 returns-2 : tie.Need-returns-2
-returns-2 c = terminals-same (terminals-spare (c .before .before .before .before .pre .1) _ _ _) (λ near. c .if2 .taken)
+returns-2 c = terminals-same (terminals-spare (c .before .before .before .before .pre .1) _ _ _) (λ near. absurd (omega (arith, c .if2 .taken)))
 
 -- the offset is small
-small : (c : tie.Else1) → c .before .before .args .a * c .before .before .args .t ≤ 1024
-small c = mul-small _ 32 _ 32 (omega (arith, c .before .before .pre .0)) (c .before .before .pre .0 .0)
+small : (c : tie.After-v) → c .before .before .before .args .a * c .before .before .before .args .t ≤ 1024
+small c = mul-small _ 32 _ 32 (omega (arith, c .before .before .before .pre .0)) (c .before .before .before .pre .0 .0)
 
 mul-offsets : tie.Need-mul-offsets
 mul-offsets c = omega (arith, small c)
@@ -25,7 +25,7 @@ cast-offsets : tie.Need-cast-offsets
 cast-offsets c = omega (arith, small c)
 
 returns-3 : tie.Need-returns-3
-returns-3 c = terminals-more (c .before .before .before .before .pre .1) (omega (arith, c .before .before .before .before .pre .0)) refl (c .before .before .if1 .left) (c .if2 .left)
+returns-3 c = terminals-more (c .before .before .before .before .pre .1) (omega (arith, c .before .before .before .before .pre .0)) refl (c .if2 .left) (c .before .before .if1 .left)
 
 pub list-terminal-spec : {M : Type 1} → statement M
 list-terminal-spec =
@@ -33,14 +33,14 @@ list-terminal-spec =
     (tie.spec
     (λ c. search needs)
     (λ c. search needs)
-    (λ c. search needs)
     returns
+    (λ c. search needs)
+    (λ c. search needs)
+    (λ c. search needs)
     (λ c. search needs)
     (λ c. search needs)
     mul-offsets
     cast-offsets
-    (λ c. search needs)
-    (λ c. search needs)
     (λ c. search needs)
     (λ c. search needs)
     (λ c. search needs)
