@@ -8,7 +8,7 @@ use native.Mathlib.Omega.{arith}
 use borrow.Author.Tests.{lt-ltb, le-ltb, eq-eqb}
 use lib.ListN.{length, getD, drop, length-append, drop-of-length-le}
 use lib.Seq.{drop-cons, drop-drop, drop-append-seam, getD-drop}
-use Rattle.number.specs.Number.{numberAt, written, first}
+use Rattle.number.specs.Number.{numberAt, written, first, value}
 use Rattle.number.specs.NumberLaws.{Bytes, first-written, first-stands}
 use Rattle.number.specs.declared.Cursor.{Cursor}
 use Rattle.number.specs.declared.Number.{Number}
@@ -119,19 +119,22 @@ cells-reads cells at (v ∷ vs) e h =
     let found : cellAt cells at ≡ Value v (record { at = at + 1 }) = rw (lt-ltb at (length cells) l, i) in
     rw p (more (record { at = at + 1 }) found (cells-reads cells (at + 1) vs j (omega arith)))
 
--- what lies after a number's bytes
-past : (bytes : List ℕ) (at v : ℕ) (rest : List ℕ) → drop at bytes ≡ written v ++ rest → drop (at + length (written v)) bytes ≡ rest
-past bytes at v rest e = rw (← drop-drop, e, drop-append-seam)
+-- what lies after some bytes
+pub past : (bytes : List ℕ) (at : ℕ) (front rest : List ℕ) → drop at bytes ≡ front ++ rest → drop (at + length front) bytes ≡ rest
+past bytes at front rest e = rw (← drop-drop, e, drop-append-seam)
+
+-- a number is read where it is written
+pub number-written : (bytes : List ℕ) (at v : ℕ) (rest : List ℕ) → v < 65536 → drop at bytes ≡ written v ++ rest → numberAt bytes at ≡ value v (at + length (written v))
+unfolding numberAt
+number-written bytes at v rest h e = rw e (first-written at v rest h)
 
 -- bytes have the numbers that are written in them
 bytes-reads : (bytes : List ℕ) (at : ℕ) (vs : List ℕ) → Cells vs → drop at bytes ≡ bytesOf vs → Reads (numberAt bytes) at vs (at + length (bytesOf vs))
-unfolding numberAt
 bytes-reads bytes at [] small e = rw add-zero none
 bytes-reads bytes at (v ∷ vs) small e =
-    let found : numberAt bytes at ≡ Value v (record { at = at + length (written v) }) = rw e (first-written at v (bytesOf vs) (small 0)) in
     rw (length-append, ← add-assoc)
-    (more (record { at = at + length (written v) }) found
-    (bytes-reads bytes (at + length (written v)) vs (λ i. small (suc i)) (past bytes at v (bytesOf vs) e)))
+    (more (record { at = at + length (written v) }) (number-written bytes at v (bytesOf vs) (small 0) e)
+    (bytes-reads bytes (at + length (written v)) vs (λ i. small (suc i)) (past bytes at (written v) (bytesOf vs) e)))
 
 cells-cons : (v : ℕ) (vs : List ℕ) → v < 65536 → Cells vs → Cells (v ∷ vs)
 cells-cons v vs h c zero = h
@@ -145,7 +148,7 @@ reads-bytes bytes b none = (refl, λ i. omega arith)
 reads-bytes {at} {next} bytes b (more {v} {vs} c f r) =
     let s = first-stands at (drop at bytes) v (c .at) (λ i. rw getD-drop (b (at + i))) f in
     let (p, q) = reads-bytes bytes b r in
-    let rest : s .rest ≡ bytesOf vs ++ drop next bytes = sym (past bytes at v (s .rest) (s .whole)) ∙ rw (s .after) at p in
+    let rest : s .rest ≡ bytesOf vs ++ drop next bytes = sym (past bytes at (written v) (s .rest) (s .whole)) ∙ rw (s .after) at p in
     (s .whole ∙ rw (rest, append-assoc), cells-cons v vs (s .small) q)
 
 -- ---- the two laws

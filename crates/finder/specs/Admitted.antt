@@ -6,7 +6,8 @@ use Rattle.book.specs.Call.{Tells}
 use Rattle.book.specs.declared.Written.{Written}
 use Rattle.book.specs.declared.Written.the-variants.{Count}
 use Rattle.book.specs.declared.Sizes.{Sizes}
-use Rattle.finder.specs.Finder.{IsMap, IsSets}
+use Rattle.finder.specs.Finder.{IsSets}
+use Rattle.walk.specs.Map.{IsMap}
 
 abbrev pub Filled : List ℕ → Sizes → List ℕ → Written → List ℕ → Type 0
 Filled cells d lent r left = Tells {Told = Written × List ℕ} (IsMap cells d) (λ map. (Count (d .s * d .t), over map lent)) (r, left)

@@ -19,7 +19,8 @@ use Rattle.walk.specs.AnswerLaws.{answer-rank}
 use Rattle.walk.specs.Scale.{plain}
 use Rattle.layers.specs.CrossingLaws.{terminals-are}
 use Rattle.distances.specs.Distances.{StartTable}
-use Rattle.finder.specs.Finder.{cleared, found, sentenceOf, pairRefusals, mapRefusals, setsRefusals, IsMap, IsSets, Maps, Gathers, Finds}
+use Rattle.walk.specs.Map.{IsMap}
+use Rattle.finder.specs.Finder.{cleared, found, sentenceOf, pairRefusals, mapRefusals, setsRefusals, IsSets, Maps, Gathers, Finds}
 use Rattle.finder.specs.declared.Found.{Found}
 use Rattle.finder.specs.declared.Found.the-variants.{Refused}
 

@@ -1,16 +1,17 @@
 -- Laws of one entry: its run is admitted, ends in a state of the book, and leaves the cells after the stack's. Assumes nothing.
 use mathlib.Core.Bool.{true, false≢true}
 use mathlib.Core.List.{List, [], _∷_, _++_, reverse}
-use mathlib.Core.Path.{_≡_, refl, sym, _∙_, ap, ap₂}
-use Prim.Native.Nat.{ℕ, suc, _+_, _-_, _≤_, _<_}
+use mathlib.Core.Path.{_≡_, refl, sym, _∙_, ap₂}
+use Prim.Native.Nat.{ℕ, _+_, _-_, _≤_, _<_}
 use native.Mathlib.Decide.{decLe}
 use native.Mathlib.Omega.{arith}
-use borrow.Author.Tests.{le-leb, lt-ltb, eqb-true}
-use lib.ListN.{length, getD, take, drop, replicate, length-append, length-take, length-drop, length-replicate, length-reverse}
+use borrow.Author.Tests.{eqb-true}
+use lib.ListN.{length, take, drop, replicate, length-append, length-drop, length-replicate, length-reverse}
 use lib.Seq.{drop-at}
 use Rattle.book.specs.Tables.{Tables, tablesOf}
 use Rattle.book.specs.TablesLaws.{Holds, InRange, in-range}
 use Rattle.book.specs.declared.Sizes.{Sizes}
+use Rattle.machine.specs.AdmissionLaws.{sound-all}
 use Rattle.machine.specs.Machine.{Reaches}
 use Rattle.machine.specs.Run.{runs, soundPrefix}
 use Rattle.machine.specs.RunLaws.{sound-terminals, run-error}
@@ -21,25 +22,19 @@ use Rattle.walk.specs.Walk.{Walk, here, shifted, crossed}
 use Rattle.walk.specs.WalkLaws.{reaches-walk}
 use Rattle.layers.specs.CrossingLaws.{terminals-are, states-are}
 use Rattle.lists.specs.Entry.{sentence}
-use Rattle.lists.specs.EntryLaws.{Spelled}
+use Rattle.lists.specs.EntryLaws.{Spelled, part-length}
 use Rattle.lists.specs.declared.Entry.{Entry}
 use Rattle.judgement.specs.Judgement.{runOf, isRight, stateOf}
 use Rattle.judgement.specs.Turns.{weighed}
 use Rattle.judgement.specs.declared.Verdict.{Verdict}
 
 -- ---- the sentence
-sound-all : (t : ℕ) (w : List ℕ) → ((i : ℕ) → i < length w → (1 ≤ getD w i 0) × (getD w i 0 < t)) → soundPrefix t w ≡ length w
-sound-all t [] f = refl
-sound-all t (a ∷ w) f =
-    let (some, below) = f 0 (omega arith) in
-    rw (le-leb 1 a some, lt-ltb a t below) (ap suc (sound-all t w (λ i h. f (suc i) (omega arith))))
-
 module _ {t : ℕ} {bytes : List ℕ} {e : Entry} (s : Spelled t bytes e) where
   pub spelled-length : length (sentence bytes e) ≡ e .len
-  spelled-length = rw (length-take, length-drop) (omega (arith, s .within))
+  spelled-length = part-length bytes (e .start) (e .len) (s .symbols .within)
 
   pub spelled-sound : soundPrefix t (sentence bytes e) ≡ length (sentence bytes e)
-  spelled-sound = sound-all t (sentence bytes e) (λ i h. s .symbol i (rw spelled-length at h))
+  spelled-sound = sound-all t (sentence bytes e) (λ i h. s .symbols .symbol i (rw spelled-length at h))
 
 -- ---- the state in which a right entry's run ends
 walk-state : {B : Tables} {q a z n s : ℕ} {w : List ℕ} → InRange B → q < B .states → Walk B q a w z n s → s < B .states

@@ -5,7 +5,7 @@ use Prim.Native.Nat.{ℕ, zero, suc, _+_, _*_, _%_, _-_, _≤_, _<_}
 use native.Mathlib.Decide.{decLe, decLt, ℕ-discrete}
 use native.Mathlib.Omega.{arith}
 use borrow.Author.Tests.{lt-ltb, le-ltb, le-leb, lt-leb, eq-eqb}
-use lib.ListN.{length, getD, take, drop, length-drop, drop-of-length-le}
+use lib.ListN.{length, getD, take, drop, length-take, length-drop, drop-of-length-le}
 use lib.Seq.{take-all}
 use Rattle.number.specs.Number.{numberAt, first, second, third, value}
 use Rattle.number.specs.NumberLaws.{byte-at, value-is, refused-not-value}
@@ -18,11 +18,15 @@ use Rattle.book.specs.Book.{Row, read, refused, admitted, row}
 use Rattle.book.specs.BookLaws.{ends-read, ends-refused}
 use Rattle.book.specs.CellsLaws.{row-segment}
 use Rattle.book.specs.RowLaws.{ends, row-front, row-clean}
-use Rattle.lists.specs.Entry.{outside, lengthFault, symbolFault, symbolRow, sentence, entryAt, lookaheadFault, entryEnded, afterSymbols, part}
+use Rattle.lists.specs.Entry.{outside, lengthFault, symbolFault, symbolRow, entryAt, lookaheadFault, entryEnded, afterSymbols, part}
 use Rattle.lists.specs.declared.Entry.{Entry}
 use Rattle.lists.specs.declared.Step.the-variants.{Found, Refused as StepRefused}
 
--- ---- a part of the bytes, where it runs past their end
+-- ---- a part of the bytes
+pub part-length : (bytes : List ℕ) (start len : ℕ) → start + len ≤ length bytes → length (part bytes start len) ≡ len
+part-length bytes start len h = rw (length-take, length-drop) (omega arith)
+
+-- where it runs past their end
 pub part-cut : (bytes : List ℕ) (start len : ℕ) → length bytes - start ≤ len → take (length bytes - start) (drop start bytes) ≡ part bytes start len
 part-cut bytes start len h =
     let rest : length (drop start bytes) ≤ length bytes - start = rw length-drop (omega arith) in
@@ -183,25 +187,36 @@ pub number-within : (bytes : List ℕ) (at v next : ℕ) → numberAt bytes at �
 unfolding numberAt
 number-within bytes at v next e = let (h, i) = first-within at (drop at bytes) v next e in omega (arith, length-drop at bytes)
 
--- ---- the sentence of an entry that was read: 'symbols from 1 to T - 1, one a byte'
+-- ---- symbols that were read: 'from 1 to T - 1, one a byte', and so a part of the bytes
+pub record Symbols (t : ℕ) (bytes : List ℕ) (start len : ℕ) : Type 0 where
+  pub row : symbolRow t bytes start len ≡ read (part bytes start len) (start + len)
+  pub within : start + len ≤ length bytes
+  pub symbol : (i : ℕ) → i < len → (1 ≤ getD (part bytes start len) i 0) × (getD (part bytes start len) i 0 < t)
+
+pub symbols-spelled : (t : ℕ) (bytes : List ℕ) (start len : ℕ) (w : List ℕ) (next : ℕ) → t ≤ 128 → symbolRow t bytes start len ≡ read w next → start ≤ length bytes
+    → Symbols t bytes start len
+symbols-spelled t bytes start len w next few e h =
+    let one : (seen : List ℕ) (i v : ℕ) (c : Cursor) → numberAt bytes i ≡ Value v c → symbolFault t seen v ≡ 0
+    → (i < length bytes) × (v ≡ getD bytes i 0) × (c .at ≡ i + 1) = λ seen i v c g z. (let (a, b) = inside 1 t 6 v z in one-byte bytes i v c (omega arith) g) in
+    let q = row-segment (numberAt bytes) (symbolFault t) bytes one len [] start w next e h in
+    let row : symbolRow t bytes start len ≡ read (part bytes start len) (start + len) = rw (q .part, q .after) at e in
+    record {
+      row = row;
+      within = q .within;
+      symbol = λ i l. inside 1 t 6 _ (row-clean (numberAt bytes) (symbolFault t) len [] start (part bytes start len) (start + len) row i l);
+    }
+
+-- ---- the sentence of an entry that was read
 pub record Spelled (t : ℕ) (bytes : List ℕ) (e : Entry) : Type 0 where
-  pub row : symbolRow t bytes (e .start) (e .len) ≡ read (sentence bytes e) (e .start + e .len)
-  pub within : e .start + e .len ≤ length bytes
+  pub symbols : Symbols t bytes (e .start) (e .len)
   pub short : e .len ≤ 1000
-  pub symbol : (i : ℕ) → i < e .len → (1 ≤ getD (sentence bytes e) i 0) × (getD (sentence bytes e) i 0 < t)
   pub below : e .lookahead < t
 
 pub entry-spelled : (t : ℕ) (bytes : List ℕ) (at : ℕ) (e : Entry) (next : Cursor) → t ≤ 128 → entryAt t bytes at ≡ Found e next → Spelled t bytes e
 entry-spelled t bytes at e next few f =
     let p = entry-parts t bytes at e next f in
-    let one : (seen : List ℕ) (i v : ℕ) (c : Cursor) → numberAt bytes i ≡ Value v c → symbolFault t seen v ≡ 0
-    → (i < length bytes) × (v ≡ getD bytes i 0) × (c .at ≡ i + 1) = λ seen i v c g z. (let (a, b) = inside 1 t 6 v z in one-byte bytes i v c (omega arith) g) in
-    let q = row-segment (numberAt bytes) (symbolFault t) bytes one (e .len) [] (e .start) (p .symbols) (p .last) (p .spelled) (number-within bytes at (e .len) (e .start) (p .begins)) in
-    let row : symbolRow t bytes (e .start) (e .len) ≡ read (sentence bytes e) (e .start + e .len) = rw (q .part, q .after) at (p .spelled) in
     record {
-      row = row;
-      within = q .within;
+      symbols = symbols-spelled t bytes (e .start) (e .len) (p .symbols) (p .last) few (p .spelled) (number-within bytes at (e .len) (e .start) (p .begins));
       short = p .short;
-      symbol = λ i h. inside 1 t 6 _ (row-clean (numberAt bytes) (symbolFault t) (e .len) [] (e .start) (sentence bytes e) (e .start + e .len) row i h);
       below = p .below;
     }

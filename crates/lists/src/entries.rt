@@ -8,8 +8,8 @@ use crate::range::admit;
 use number::Cursor;
 use number::Number;
 
-// The symbols of an entry; answers where they end, or the refusal.
-fn symbol_row(list: &[u8], start: usize, len: usize, t: usize) -> Number
+// The symbols of a sentence; answers where they end, or the refusal.
+pub fn symbol_row(list: &[u8], start: usize, len: usize, t: usize) -> Number
     ensures { λ r. ⌜ r ≡ ends (symbolRow t (now (list .entry)) start len) ⌝ }
 {
     let mut at = start;

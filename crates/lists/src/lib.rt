@@ -6,12 +6,14 @@ mod range;
 mod reading;
 
 pub use entries::entry_at;
+pub use entries::symbol_row;
 pub use entries::symbols;
 pub use index::nth_entry;
 pub use list::check_list;
 pub use list::next_at;
 use number::Cursor;
 use number::Refusal;
+pub use range::admit;
 pub use reading::next_entry;
 pub use reading::remaining;
 pub use reading::start;

@@ -55,6 +55,12 @@ sound-at t [] i e h = absurd (not-suc-le-zero h)
 sound-at t (a ∷ w) zero e h = sound-head t a w e .1
 sound-at t (a ∷ w) (suc i) e h = sound-at t w i (sound-head t a w e .2) (omega arith)
 
+pub sound-all : (t : ℕ) (w : List ℕ) → ((i : ℕ) → i < length w → (1 ≤ getD w i 0) × (getD w i 0 < t)) → soundPrefix t w ≡ length w
+sound-all t [] f = refl
+sound-all t (a ∷ w) f =
+    let (some, below) = f 0 (omega arith) in
+    rw (le-leb 1 a some, lt-ltb a t below) (ap suc (sound-all t w (λ i h. f (suc i) (omega arith))))
+
 sound-most : (t : ℕ) (w : List ℕ) → soundPrefix t w ≤ length w
 sound-most t [] = omega arith
 sound-most t (a ∷ w) = go (leb 1 a && ltb a t) (sound-most t w)

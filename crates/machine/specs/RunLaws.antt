@@ -35,7 +35,7 @@ NextMove m n (Deep stop) = Goes m
 NextMove m n (Spinning stop) = Goes m
 
 -- ---- the reductions before the symbol a, which u follows
-abbrev After : Tables → ℕ → ℕ → List ℕ → ℕ → List ℕ → Limited 0 → Type 0
+abbrev pub After : Tables → ℕ → ℕ → List ℕ → ℕ → List ℕ → Limited 0 → Type 0
 After B a taken u n st₀ (stops e st) = Steps B st₀ (a ∷ u) st (a ∷ u) × (stopOf e ≡ stopped st a taken) × NextMove (next B st a) n e
 After B a taken u n st₀ (toShift s st) = Steps B st₀ (a ∷ u) st (a ∷ u) × (next B st a ≡ shifts s)
 
@@ -62,7 +62,7 @@ module _ (B : Tables) (a taken : ℕ) (u : List ℕ) (n : ℕ) where
   after-more k st new e x true t = let g : Goes (next B st a) = rw e by-reduction in rw (reducing, e, t) (done, refl, g)
   after-more k st new e x false t = rw (reducing, e, t) (after-step (reduce e) (reducing B a taken k new) x)
 
-  after-reducing : (left : ℕ) (st : List ℕ) → After B a taken u n st (reducing B a taken left st)
+  pub after-reducing : (left : ℕ) (st : List ℕ) → After B a taken u n st (reducing B a taken left st)
   after-reducing zero st = after-move zero st (next B st a) refl (after-none st)
   after-reducing (suc k) st = after-move (suc k) st (next B st a) refl (λ new e. after-more k st new e (after-reducing k new) (ltb 1024 (length new)) refl)
 

@@ -1,11 +1,14 @@
 -- How a stack lies in lent cells, and what the parts of a run promise of it. Assumes nothing.
+use mathlib.Core.Bool.{cond}
 use mathlib.Core.Path.{_≡_}
 use mathlib.Core.List.{List, [], _∷_}
+use mathlib.Core.Logic.{_⊎_, inl, inr}
 use Prim.Native.Nat.{ℕ, zero, suc, _-_, _≤_, _<_}
+use lib.Dec.{ltb}
 use lib.ListN.{length, getD, drop}
 use Rattle.book.specs.Tables.{Tables}
 use Rattle.machine.specs.Machine.{Move, accepts, fails, breaks, shifts, reduces}
-use Rattle.machine.specs.Run.{Limited, stops, toShift, reducing, runs, stackLeft}
+use Rattle.machine.specs.Run.{Limited, stops, toShift, stopped, reducing, stackLeft}
 use Rattle.machine.specs.declared.Ending.{Ending}
 use Rattle.machine.specs.declared.Seen.{Seen}
 use Rattle.machine.specs.declared.Seen.the-variants.{Accept, Error, Broken, Shift, Reduce}
@@ -53,12 +56,17 @@ abbrev pub Held : ℕ → List ℕ → List ℕ → Limited 0 → Paused → Typ
 Held S lent cells want (Halted e n) = (stops e (stackOf cells n) ≡ want) × StackFrom S lent cells n
 Held S lent cells want (Shifting s n) = (toShift s (stackOf cells n) ≡ want) × StackFrom S lent cells n × (s < S)
 
--- a symbol of the sentence, whatever follows it
-abbrev pub Fed : Tables → ℕ → List ℕ → List ℕ → ℕ → ℕ → ℕ → Entered → Type 0
-Fed B S lent cells depth a taken (Closed e n) =
-    ((z : ℕ) (w : List ℕ) → (e, stackOf cells n) ≡ runs B z (a ∷ w) taken (stackOf lent depth)) × StackFrom S lent cells n
-Fed B S lent cells depth a taken (Depth n) =
-    ((z : ℕ) (w : List ℕ) → runs B z w (suc taken) (stackOf cells n) ≡ runs B z (a ∷ w) taken (stackOf lent depth)) × StackFrom S lent cells n
+-- a symbol of the sentence after its reductions: how the run ends before the shift, or the stack to go on with
+abbrev pub shifted : ℕ → ℕ → Limited 0 → (Ending × List ℕ) ⊎ List ℕ
+shifted a taken (stops e top) = inl (e, top)
+shifted a taken (toShift q top) = cond (ltb 1024 (length (q ∷ top))) (inl (Ending.Deep (stopped top a taken), top)) (inr (q ∷ top))
+
+abbrev pub entering : Tables → ℕ → ℕ → List ℕ → (Ending × List ℕ) ⊎ List ℕ
+entering B a taken st = shifted a taken (reducing B a taken 4096 st)
+
+abbrev pub Fed : ℕ → List ℕ → List ℕ → (Ending × List ℕ) ⊎ List ℕ → Entered → Type 0
+Fed S lent cells want (Closed e n) = (inl (e, stackOf cells n) ≡ want) × StackFrom S lent cells n
+Fed S lent cells want (Depth n) = (inr (stackOf cells n) ≡ want) × StackFrom S lent cells n
 
 -- the run that ended as o has, with what it leaves in the lent cells
 abbrev pub RanTo : Ending × List ℕ → List ℕ → Ending → List ℕ → Type 0

@@ -6,7 +6,7 @@ ghost use lib.ListN.{length};
 ghost use Rattle.book.specs.Tables.{tablesOf};
 ghost use Rattle.book.specs.TablesLaws.{Accepted, Holds};
 ghost use Rattle.machine.specs.Run.{runs, stackLeft, soundPrefix};
-ghost use Rattle.machine.specs.Stack.{stackOf, StackIn, Fed, RanTo};
+ghost use Rattle.machine.specs.Stack.{stackOf, StackIn, entering, Fed, RanTo};
 use crate::DEPTH;
 use crate::Ending;
 use crate::Entered;
@@ -31,7 +31,7 @@ fn clear(stack: &mut [u16], depth: usize)
 }
 
 // Reduces before a symbol of the sentence and shifts it.
-fn take_in(
+pub fn take_in(
     cells: &[u16],
     d: Sizes,
     stack: &mut [u16],
@@ -42,7 +42,7 @@ fn take_in(
     requires { ⌜ Holds d (now cells) ⌝ }
     requires { ⌜ StackIn (d .s) (now stack) depth ⌝ }
     requires { ⌜ a < d .t ⌝ }
-    ensures { λ r. ⌜ Fed (tablesOf (now (cells .entry))) (d .s) (now (stack .entry)) (now (stack .exit)) depth a taken r ⌝ }
+    ensures { λ r. ⌜ Fed (d .s) (now (stack .entry)) (now (stack .exit)) (entering (tablesOf (now (cells .entry))) a taken (stackOf (now (stack .entry)) depth)) r ⌝ }
 {
     match reduce(cells, d, stack, depth, a, taken) {
         Paused::Ended(e, n) => Entered::Ended(e, n),

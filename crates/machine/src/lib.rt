@@ -2,6 +2,7 @@
 mod admission;
 mod driver;
 mod looks;
+mod reaching;
 mod reductions;
 
 ghost use mathlib.Core.Path.{_≡_};
@@ -9,6 +10,7 @@ ghost use Rattle.machine.specs.Run.{stopOf, running};
 use book::Checked;
 pub use driver::drive;
 use number::Refusal;
+pub use reaching::reaches;
 
 // How many states a run can stack.
 pub const DEPTH: usize = 1024;

@@ -35,7 +35,7 @@ fn reduction(cells: &[u16], d: Sizes, stack: &[u16], depth: usize, p: usize) -> 
     Seen::Reduce(m, g - 1)
 }
 
-fn look(cells: &[u16], d: Sizes, stack: &[u16], depth: usize, a: u16) -> Seen
+pub fn look(cells: &[u16], d: Sizes, stack: &[u16], depth: usize, a: u16) -> Seen
     requires { ⌜ Holds d (now cells) ⌝ }
     requires { ⌜ StackIn (d .s) (now stack) depth ⌝ }
     requires { ⌜ a < d .t ⌝ }

@@ -10,7 +10,7 @@ use crate::looks::turn;
 use book::Sizes;
 
 // How many reductions can be done without a shift.
-const REDUCTIONS: usize = 4096;
+pub const REDUCTIONS: usize = 4096;
 
 // Reduces until the symbol is to be shifted or the run ends.
 pub fn reduce(

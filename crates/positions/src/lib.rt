@@ -3,3 +3,4 @@ mod position;
 mod production;
 
 pub use position::mark_all;
+pub use production::longest_of_all;

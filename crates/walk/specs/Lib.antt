@@ -2,6 +2,7 @@ pub mod Walk
 pub mod WalkLaws
 pub mod Scale
 pub mod Cost
+pub mod Map
 pub mod Sum
 pub mod CostLaws
 pub mod Claims
