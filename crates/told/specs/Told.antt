@@ -6,6 +6,7 @@ use Rattle.machine.specs.{Run.stopOf, declared.Ending.Ending, declared.Ran.Ran,
 use Rattle.finder.specs.declared.Found.{Found}
 use Rattle.lists.specs.declared.{Listing.Listing, Next.Next, Nth.Nth}
 use Rattle.judgement.specs.declared.Judgement.{Judgement}
+use Rattle.certificate.specs.{Certificate.order, declared.Verdict.Verdict}
 
 -- 'Where an answer is an enum, a definition gives this paper's number and values for each of its cases': eight numbers, the kind first
 -- and then its values, 0 where there is none
@@ -76,6 +77,13 @@ toldJudged Judgement.Complete = eight (1 ∷ [])
 toldJudged (Judgement.Uncovered s) = eight (2 ∷ s ∷ [])
 toldJudged (Judgement.Repeat i) = eight (3 ∷ i ∷ [])
 toldJudged (Judgement.Wrong i e) = toldWrong i (kindOf e) (stopOf e)
+
+-- accepted; or 'The fault told is the first condition in this order .. with the lowest claim's index': the condition's number, from 0 for a
+-- claim over 1,002, and then the index
+abbrev pub toldVerdict : Verdict → List ℕ
+toldVerdict (Verdict.Refused r) = toldRefusal r
+toldVerdict Verdict.Accepted = eight (1 ∷ [])
+toldVerdict (Verdict.Fault k i) = eight (2 ∷ order k ∷ i ∷ [])
 
 -- an answer that is right, with what lent memory holds after the call, and its numbers
 abbrev pub Told : {Answer Lent : Type 0} → (Answer × Lent → Type 0) → (Answer → List ℕ) → List ℕ → Lent → Type 0

@@ -1,9 +1,12 @@
 // Each answer as a kind and its values.
 ghost use mathlib.Core.List.{[], _∷_};
 ghost use mathlib.Core.Path.{_≡_};
-ghost use Rattle.told.specs.Told.{eight, toldRefusal, toldWritten, toldChecked, kindOf, toldEnded, toldRan, toldFound, toldListed, toldEntry, toldNext, toldWrong, toldJudged};
+ghost use Rattle.told.specs.Told.{eight, toldRefusal, toldWritten, toldChecked, kindOf, toldEnded, toldRan, toldFound, toldListed, toldEntry, toldNext, toldWrong, toldJudged, toldVerdict};
+ghost use Rattle.certificate.specs.Certificate.{order};
 use book::Checked;
 use book::Written;
+use certificate::Condition;
+use certificate::Verdict;
 use finder::Found;
 use judgement::Judgement;
 use lists::Listing;
@@ -160,5 +163,29 @@ pub fn tell_judged(j: Judgement) -> [u64; 8]
         Judgement::Uncovered(s) => few(2, s as u64, 0, 0),
         Judgement::Repeat(i) => few(3, i as u64, 0, 0),
         Judgement::Wrong(i, e) => tell_wrong(i, kind_of(e), stop_of(e)),
+    }
+}
+
+// The condition's number in the order.
+fn order_of(k: Condition) -> u64
+    ensures { λ n. ⌜ n ≡ order k ⌝ }
+{
+    match k {
+        Condition::Range => 0,
+        Condition::Roads => 1,
+        Condition::Start => 2,
+        Condition::Transitions => 3,
+        Condition::Short => 4,
+        Condition::Sentences => 5,
+    }
+}
+
+pub fn tell_verdict(v: Verdict) -> [u64; 8]
+    ensures { λ n. ⌜ n ≡ toldVerdict v ⌝ }
+{
+    match v {
+        Verdict::Refused(r) => tell_refusal(r),
+        Verdict::Accepted => few(1, 0, 0, 0),
+        Verdict::Fault(k, i) => few(2, order_of(k), i as u64, 0),
     }
 }

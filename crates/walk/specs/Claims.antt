@@ -7,6 +7,7 @@ use lib.ListN.{drop}
 use Rattle.book.specs.Tables.{Tables}
 use Rattle.book.specs.declared.Action.the-variants.{Shift, Reduce}
 use Rattle.walk.specs.Walk.{Walk}
+pub use Rattle.walk.specs.Road.{Claims, Claimed, none, shifting, crossing}
 use Rattle.walk.specs.Scale.{Scale, unreached, cap}
 use Rattle.walk.specs.Cost.{cost, Attained}
 use Rattle.walk.specs.Sum.{plus, shiftCost}
@@ -21,19 +22,6 @@ pub record Crosses (B : Tables) (q X a z : ℕ) (w : List ℕ) : Type 0 where
   pub action : B .act last z ≡ Reduce production
   pub left : B .lhs production ≡ X
   pub transition : B .goto q X ≡ suc target
-
--- a table of claims: what the cheapest crossing of (q, X, a, z) costs
-abbrev pub Claims : Type 0
-Claims = ℕ → ℕ → ℕ → ℕ → ℕ
-
--- Claimed σ B claim q a v z n q′: n transitions lead from q to q′ at the cost v, where z is the next terminal and a the first. A shift costs
--- what its terminal does, and any terminal may follow it; a goto costs its claim for the terminals before and after it
-pub data Claimed (σ : Scale) (B : Tables) (claim : Claims) : ℕ → ℕ → ℕ → ℕ → ℕ → ℕ → Type 0 where
-  none : {q z : ℕ} → z < B .terminals → Claimed σ B claim q z 0 z 0 q
-  shifting : {q a v t n q₁ q₂ : ℕ} (z : ℕ) → Claimed σ B claim q a v t n q₁ → B .act q₁ t ≡ Shift q₂ → z < B .terminals
-      → Claimed σ B claim q a (plus σ v (shiftCost σ t)) z (suc n) q₂
-  crossing : {q a v b n q₁ q₂ : ℕ} (X z : ℕ) → Claimed σ B claim q a v b n q₁ → B .goto q₁ X ≡ suc q₂ → z < B .terminals
-      → Claimed σ B claim q a (plus σ v (claim q₁ X b z)) z (suc n) q₂
 
 -- `Descends` by claims: an end from the stack, or a claimed walk to a reduction that pops the stack below the top, and then from the smaller stack
 pub data ClaimedDescends (σ : Scale) (B : Tables) (claim : Claims) (End : ℕ → List ℕ → ℕ → ℕ → ℕ → Type 0) : List ℕ → ℕ → ℕ → Type 0 where

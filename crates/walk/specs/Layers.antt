@@ -5,16 +5,11 @@ use Prim.Native.Nat.{ℕ, suc, _≤_, _<_}
 use Rattle.book.specs.Tables.{Tables}
 use Rattle.book.specs.declared.Action.the-variants.{Shift}
 use Rattle.walk.specs.Scale.{Scale, unreached}
+pub use Rattle.walk.specs.Road.{Longer, add-shift, add-goto}
 use Rattle.walk.specs.Claims.{Claims, Claimed, Least, LeastWhere, Arrival, OnwardTo, Weighs}
 use Rattle.walk.specs.Sum.{shiftCost, plus, cut}
 
--- L has a cost for each state and next terminal; Longer σ B claim L q z v: from there one transition more leads to (q, z), at the cost v
-pub data Longer (σ : Scale) (B : Tables) (claim : Claims) (L : ℕ → ℕ → ℕ) : ℕ → ℕ → ℕ → Type 0 where
-  add-shift : {q₁ t q₂ : ℕ} (z : ℕ) → t < B .terminals → B .act q₁ t ≡ Shift q₂ → z < B .terminals → Longer σ B claim L q₂ z (plus σ (L q₁ t) (shiftCost σ t))
-  add-goto : {q₁ q₂ : ℕ} (X b z : ℕ) → b < B .terminals → B .goto q₁ X ≡ suc q₂ → z < B .terminals
-      → Longer σ B claim L q₂ z (plus σ (L q₁ b) (claim q₁ X b z))
-
--- .. and backwards: one transition from (q, a) leads to where G has a cost
+-- `Longer` backwards: one transition from (q, a) leads to where G has a cost
 pub data Sooner (σ : Scale) (B : Tables) (claim : Claims) (G : ℕ → ℕ → ℕ) (q a : ℕ) : ℕ → Type 0 where
   from-shift : {q₁ : ℕ} (b : ℕ) → B .act q a ≡ Shift q₁ → b < B .terminals → Sooner σ B claim G q a (plus σ (shiftCost σ a) (G q₁ b))
   from-goto : {q₁ : ℕ} (X b : ℕ) → B .goto q X ≡ suc q₁ → b < B .terminals → Sooner σ B claim G q a (plus σ (claim q X a b) (G q₁ b))

@@ -4,6 +4,7 @@ pub mod Scale
 pub mod Cost
 pub mod Map
 pub mod Sum
+pub mod Road
 pub mod CostLaws
 pub mod Claims
 pub mod MatchesLaws
