@@ -21,26 +21,29 @@
  * the count is 0, and must be good for the count. Slices that are written to (not const) must
  * overlap no other. Nothing is allocated, and no pointer is kept after a call.
  *
- * Call stack. purlquartz_find uses less than 420,000 bytes of it; purlquartz_map, purlquartz_sets
- * and purlquartz_judge less than 60,000; purlquartz_run less than 25,000; every other call less
- * than 1,000. These are rounded up from what was measured.
+ * Call stack. purlquartz_find uses less than 420,000 bytes of it; purlquartz_map, purlquartz_sets,
+ * purlquartz_judge and purlquartz_check_certificate less than 60,000; purlquartz_run less than
+ * 25,000; every other call less than 1,000. These are rounded up from what was measured.
  *
  * Answers. Every call fills answer[0] to answer[7]: answer[0] is the kind, the others its values,
  * unused ones 0. The answer must not be null, and must overlap no slice. Kind 0 is a refusal,
  * answer[1] its number and answer[2] its place; then no lent memory but the answer has changed.
  * All inputs are checked before anything else happens, in the order: the book's cells or bytes;
- * the list or sentence; then 17, 10, 11, 13, 12.
+ * the list, sentence or certificate; then 17, 10, 11, 13, 12.
  *
  *   number  cause                                              place
- *   1   a book or list stops before a due number is complete   where the missing number begins
+ *   1   a book, list or part of a certificate stops before a   where the missing number begins
+ *       due number is complete
  *   2   a number is padded, too wide, or over 65,535           its first byte
  *       (in bytes only)
  *   3   the form is neither 1 nor 2                            the number's offset or index
  *   4   T, N, S or P outside its range                         the number's offset or index
  *   5   a production's left side or length outside its range   the number's offset or index
  *   6   something follows the last number                      where it begins
- *   7   a symbol is 0, or T or more                            its index; in a list, its offset
- *   8   a sentence has over 1,000 symbols                      0; in a list, the length's offset
+ *   7   a symbol is 0, or T or more                            its index; in a list or
+ *                                                              certificate, its offset
+ *   8   a sentence has over 1,000 symbols                      0; in a list or certificate, the
+ *                                                              length's offset
  *   9   a list has over 128 entries                            the count's offset
  *   10  the state is S or more                                 0
  *   11  the lookahead is T or more                             0; in a list, its offset
@@ -98,6 +101,20 @@ extern "C" {
 #define PURLQUARTZ_UNCOVERED 2u
 #define PURLQUARTZ_REPEAT 3u
 #define PURLQUARTZ_WRONG 4u
+
+/* answer[0] of purlquartz_check_certificate, and answer[1] of a fault. */
+#define PURLQUARTZ_CERTIFICATE_ACCEPTED 1u
+#define PURLQUARTZ_CERTIFICATE_FAULT 2u
+#define PURLQUARTZ_FAULT_RANGE 0u
+#define PURLQUARTZ_FAULT_ROADS 1u
+#define PURLQUARTZ_FAULT_START 2u
+#define PURLQUARTZ_FAULT_TRANSITIONS 3u
+#define PURLQUARTZ_FAULT_SHORT 4u
+#define PURLQUARTZ_FAULT_SENTENCES 5u
+
+/* How many cells a certificate's claims for crossings have: S * N * T * T. */
+#define PURLQUARTZ_CROSSING_CELLS(t, n, s) \
+    ((size_t)(s) * (size_t)(n) * (size_t)(t) * (size_t)(t))
 
 /* How many work cells the finder needs: T * T * S * (N + 8). */
 #define PURLQUARTZ_WORK_CELLS(t, n, s) \
@@ -264,6 +281,49 @@ void purlquartz_judge(const uint16_t *cells, size_t cell_count,
                       uint16_t *work, size_t work_count,
                       uint16_t *stack, size_t stack_count,
                       uint64_t answer[8]);
+
+/*
+ * Checks a certificate, whoever made it. What is accepted is the book's map: the claims for pairs
+ * are then what purlquartz_map writes, and no pair is long. A true certificate without long pairs
+ * is accepted if its sentences reach their pairs within a run's limits. No memory is written but
+ * the answer.
+ *
+ * Claims are least lengths: 0 to 1,000, 1,001 for long, 1,002 for unreached.
+ *   crossings  S * N * T * T cells: the claim of state q, nonterminal x, first and following
+ *              terminal stands at ((q * N + x) * T + first) * T + following, for each goto, be it
+ *              there or none
+ *   pairs      S * T cells, by state, then terminal, as the map's
+ *   sentences  for each pair claimed at 1,000 or less, in the same order, a length and so many
+ *              symbols, numbers as in a book; a pair claimed higher has none
+ *
+ * A shift counts 1, has its terminal for first and any following terminal. A goto that is there
+ * counts its claim. A road is such transitions in a row, each one's following terminal the next
+ * one's first; an empty road has equal first and following. Sums over 1,000 stop at 1,001, and
+ * unreached with anything is unreached.
+ *
+ * Kinds: 1 accepted; 2 a fault, answer[1] is the first condition that is not met, answer[2] the
+ * lowest index of a claim at which it is not. The crossings' claims are counted from 0 and the
+ * pairs' go on after them: pair (s, z) has S * N * T * T + s * T + z. The conditions:
+ *   0  no claim is over 1,002
+ *   1  no crossing's claim is over any road from its state with its first and following terminal,
+ *      as long as a production of its nonterminal and ending where that production is reduced on
+ *      the following terminal; whether the goto is there or none
+ *   2  each (0, z) is claimed 0
+ *   3  no pair's claim is over that of any pair and one transition from the latter's state to the
+ *      former's, its first terminal the latter's lookahead, its following terminal the former's
+ *   4  no pair is claimed long
+ *   5  each sentence has the claimed length, and its run with the pair's lookahead, as by
+ *      purlquartz_run, has at some moment up to its ending all symbols in and the lookahead not,
+ *      with the pair's state on top
+ * Refusals: those of purlquartz_check; for the crossings 1 at their count if it is too low, or 6
+ * at the first surplus cell; for the pairs likewise; then, with offsets in the sentences, for each
+ * that is due 1, 2, 8 for its length and 1, 2, 7 for each symbol; 6.
+ */
+void purlquartz_check_certificate(const uint16_t *cells, size_t cell_count,
+                                  const uint16_t *crossings, size_t crossing_count,
+                                  const uint16_t *pairs, size_t pair_count,
+                                  const uint8_t *sentences, size_t sentence_count,
+                                  uint64_t answer[8]);
 
 #ifdef __cplusplus
 }

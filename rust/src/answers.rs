@@ -19,14 +19,14 @@ pub const MOST_BYTES: usize = 16_679;
 ///
 /// | number | cause | place |
 /// |---|---|---|
-/// | 1 | a book or list stops before a due number is complete | where the missing number begins |
+/// | 1 | a book, list, row of claims or row of sentences stops before a due number is complete | where the missing number begins |
 /// | 2 | a number is padded, too wide, or over 65,535 | its first byte |
 /// | 3 | the form is neither 1 nor 2 | the number's offset or index |
 /// | 4 | T, N, S or P outside its range | the number's offset or index |
 /// | 5 | a production's left side or length outside its range | the number's offset or index |
 /// | 6 | something follows the last number | where it begins |
-/// | 7 | a symbol is 0, or T or more | the symbol's index; in a list, its offset |
-/// | 8 | a sentence has over 1,000 symbols | 0; in a list, the length's offset |
+/// | 7 | a symbol is 0, or T or more | the symbol's index; in a list or certificate, its offset |
+/// | 8 | a sentence has over 1,000 symbols | 0; in a list or certificate, the length's offset |
 /// | 9 | a list has over 128 entries | the count's offset |
 /// | 10 | the state is S or more | 0 |
 /// | 11 | the lookahead is T or more | 0; in a list, its offset |
@@ -60,9 +60,14 @@ impl Sizes {
         terminals * terminals * usize::from(self.states) * (usize::from(self.nonterminals) + 8)
     }
 
-    /// The cells of the whole map: S × T.
+    /// The cells of the whole map, and of a certificate's claims for pairs: S × T.
     pub fn map_cells(&self) -> usize {
         usize::from(self.states) * usize::from(self.terminals)
+    }
+
+    /// The cells of a certificate's claims for crossings: S × N × T × T.
+    pub fn crossing_cells(&self) -> usize {
+        self.map_cells() * usize::from(self.nonterminals) * usize::from(self.terminals)
     }
 }
 
@@ -136,4 +141,52 @@ pub enum Judgement {
     Repeat { entry: usize },
     /// The entry's run does not end as error with the whole sentence in.
     Wrong { entry: usize, ending: Ending },
+}
+
+/// What the checker says of a certificate.
+#[derive(Clone, Copy, Debug, PartialEq, Eq)]
+pub enum Verdict {
+    /// Every condition is met: the claims for pairs are the book's map.
+    Accepted,
+    /// The first condition that is not met, and the lowest index of a claim at which it is not. The
+    /// crossings' claims are counted from 0, and the pairs' go on after them.
+    Fault { condition: Condition, index: usize },
+}
+
+/// What a certificate must meet, in the order in which it is looked at.
+///
+/// A transition is a shift, which counts 1 and has any following terminal, or a goto that is there,
+/// which counts its claim. A road is transitions in a row, each one's following terminal the next
+/// one's first; an empty road has equal first and following. A sum over 1,000 stops at [`LONG`],
+/// and [`UNREACHED`] with anything is unreached.
+#[derive(Clone, Copy, Debug, PartialEq, Eq, PartialOrd, Ord)]
+pub enum Condition {
+    /// 0: no claim is over [`UNREACHED`].
+    Range,
+    /// 1: the claim of a crossing is no more than any road from its state with its first and
+    /// following terminal, as long as a production of its nonterminal and ending where that is
+    /// reduced on the following terminal. This holds of gotos that are none too.
+    Roads,
+    /// 2: state 0 is claimed 0 with every lookahead.
+    Start,
+    /// 3: the claim of a pair is no more than that of any pair and one transition from there, its
+    /// first terminal that pair's lookahead and its following terminal this one's.
+    Transitions,
+    /// 4: no pair is claimed [`LONG`].
+    Short,
+    /// 5: the sentence of a pair has the claimed length, and its run with the pair's lookahead,
+    /// under a run's limits, has at some moment all symbols in and the pair's state on top.
+    Sentences,
+}
+
+impl Condition {
+    /// All conditions; each has its number for index.
+    pub const ALL: [Condition; 6] = [
+        Condition::Range,
+        Condition::Roads,
+        Condition::Start,
+        Condition::Transitions,
+        Condition::Short,
+        Condition::Sentences,
+    ];
 }

@@ -109,6 +109,17 @@ extern "C" {
         stack_count: usize,
         answer: *mut u64,
     );
+    fn purlquartz_check_certificate(
+        cells: *const u16,
+        cell_count: usize,
+        crossings: *const u16,
+        crossing_count: usize,
+        pairs: *const u16,
+        pair_count: usize,
+        sentences: *const u8,
+        sentence_count: usize,
+        answer: *mut u64,
+    );
 }
 
 // Every call below is sound for the same reason: a slice's pointer is not null and good for its
@@ -295,6 +306,29 @@ pub(crate) fn judge(cells: &[u16], list: &[u8], work: &mut [u16], stack: &mut [u
             work.len(),
             stack.as_mut_ptr(),
             stack.len(),
+            answer.as_mut_ptr(),
+        )
+    }
+    answer
+}
+
+pub(crate) fn check_certificate(
+    cells: &[u16],
+    crossings: &[u16],
+    pairs: &[u16],
+    sentences: &[u8],
+) -> Answer {
+    let mut answer = [0; 8];
+    unsafe {
+        purlquartz_check_certificate(
+            cells.as_ptr(),
+            cells.len(),
+            crossings.as_ptr(),
+            crossings.len(),
+            pairs.as_ptr(),
+            pairs.len(),
+            sentences.as_ptr(),
+            sentences.len(),
             answer.as_mut_ptr(),
         )
     }

@@ -6,11 +6,15 @@
 //! form 1 its number is its rank. [`to_form_1`] and [`to_form_2`] turn one form into the other.
 //!
 //! All memory is lent by the caller. Each call checks its inputs whole before it writes anything,
-//! so that a refused call changes nothing. Refusals come in the order: the book's, the list's or
-//! sentence's, then 17, 10, 11, 13, 12.
+//! so that a refused call changes nothing. Refusals come in the order: the book's, those of the
+//! list, sentence or certificate, then 17, 10, 11, 13, 12.
+//!
+//! A *certificate* shows that a map is a book's map: [`check_certificate`] looks whether it does,
+//! and [`certificate::make`] makes one.
 #![deny(unsafe_code)]
 
 mod answers;
+pub mod certificate;
 mod entries;
 #[allow(unsafe_code)]
 mod foreign;
@@ -206,6 +210,41 @@ pub fn judge(
     })
 }
 
+/// Checks a certificate for a book, whoever made it, and accepts it or tells the first condition
+/// that it does not meet. What is accepted is the book's map: `pairs` is then what [`map`] writes,
+/// and no pair is long. No lent memory is written.
+///
+/// A certificate has two rows of claimed least lengths, 0 to 1,000, [`LONG`] or [`UNREACHED`], and
+/// sentences:
+///
+/// - `crossings`, S × N × T × T cells ([`Sizes::crossing_cells`]): for each state q, nonterminal x,
+///   first and following terminal, at ((q × N + x) × T + first) × T + following, what it takes to
+///   cross the goto of q under x, be it there or none;
+/// - `pairs`, S × T cells in the map's order ([`Sizes::map_cells`]);
+/// - `sentences`: for each pair claimed at 1,000 or less, in the map's order, a length and symbols,
+///   numbers as in a book.
+///
+/// Refusals: those of [`check`]; for the crossings 1 at their count if that is too low, or 6 at the
+/// first surplus cell; for the pairs likewise; then with the offset of the number's first byte, for
+/// each sentence that is due, 1, 2, 8 for its length and 1, 2, 7 for each symbol; 6.
+pub fn check_certificate(
+    cells: &[u16],
+    crossings: &[u16],
+    pairs: &[u16],
+    sentences: &[u8],
+) -> Result<Verdict, Refusal> {
+    let answer = foreign::check_certificate(cells, crossings, pairs, sentences);
+    let answer = accepted(answer)?;
+    Ok(match answer[0] {
+        1 => Verdict::Accepted,
+        2 => Verdict::Fault {
+            condition: condition(answer[1]),
+            index: answer[2] as usize,
+        },
+        kind => unknown(kind),
+    })
+}
+
 /// Kind 0 is a refusal for every call.
 fn accepted(answer: Answer) -> Result<Answer, Refusal> {
     if answer[0] == 0 {
@@ -251,6 +290,13 @@ fn ending(kind: u64, [state, symbol, taken]: [u64; 3]) -> Ending {
         5 => Ending::Deep(stop),
         6 => Ending::Spinning(stop),
         kind => unknown(kind),
+    }
+}
+
+fn condition(number: u64) -> Condition {
+    match Condition::ALL.get(number as usize) {
+        Some(&condition) => condition,
+        None => unknown(number),
     }
 }
 

@@ -1,6 +1,7 @@
 //! Compares every call of the library with the independent implementation, on random books, lists
 //! and sentences, good and damaged: answers, refusals with their places, and all lent memory.
-//! Seeds are fixed, so that every run makes the same comparisons.
+//! Seeds are fixed, so that every run makes the same comparisons. `certificate.rs` does this for
+//! certificates.
 
 mod both;
 #[allow(dead_code)]

@@ -2,7 +2,7 @@
 use Rattle.number.specs.Words.{Bool, true, false, _&&_, List, [], length, getD, _⊎_, _≡_, _≢_, ℕ, _+_, _*_, _<_, _≤_, eqb}
 use Rattle.book.specs.{Tables.Tables, declared.Action.Action}
 use Rattle.machine.specs.{Machine.Reaches, Within.reachesWithin}
-use Rattle.walk.specs.{Walk.Walk, Scale.plain, Scale.long, Scale.unreached, Cost.Exact, Claims.Claims, Claims.Claimed, Layers.Longer}
+use Rattle.walk.specs.{Scale.plain, Scale.long, Scale.unreached, Cost.Exact, Road.Crosses, Road.Claims, Road.Claimed, Road.Longer}
 use Rattle.certificate.specs.declared.{Condition.Condition, Verdict.Verdict}
 
 -- ---- the claims
@@ -119,18 +119,11 @@ pub data Judged (fails : Condition → ℕ → Type 0) : Verdict → Type 0 wher
 abbrev pub TrueMap : Tables → (ℕ → ℕ → ℕ) → Type 0
 TrueMap B pair = (s z : ℕ) → s < B .states → z < B .terminals → Exact plain (λ w. Reaches B w z s) (pair s z)
 
--- the words of a road from q: `Crosses` of walk, the goto there or none
-pub record Makes (B : Tables) (q X a z : ℕ) (w : List ℕ) : Type 0 where
-  pub production : ℕ
-  pub last : ℕ
-  pub walk : Walk B q a w z (B .len production) last
-  pub reduced : B .act last z ≡ Action.Reduce production
-  pub left : B .lhs production ≡ X
-
--- 'A true certificate without long pairs' whose 'sentences reach within those limits'; the claim of a crossing is the least of its roads
+-- 'A true certificate without long pairs' whose 'sentences reach within those limits'; the claim of a crossing is the least length of its
+-- words, the goto there or none
 pub record True (B : Tables) (c : Certificate) : Type 0 where
   pub crossings : (q X a z : ℕ) → q < B .states → X < B .nonterminals → a < B .terminals → z < B .terminals
-      → Exact plain (Makes B q X a z) (c .crossing q X a z)
+      → Exact plain (Crosses B q X a z) (c .crossing q X a z)
   pub pairs : TrueMap B (c .pair)
   pub short : (s z : ℕ) → s < B .states → z < B .terminals → c .pair s z ≢ long plain
   pub lengths : (s z : ℕ) → s < B .states → z < B .terminals → c .pair s z ≤ plain .limit → length (c .sentence s z) ≡ c .pair s z

@@ -26,7 +26,7 @@ use Rattle.walk.specs.ClaimsLaws.{claimed-next, claimed-terminal, closed-below,
 use Rattle.walk.specs.Layers.{Longer, add-shift, add-goto}
 use Rattle.machine.specs.Within.{reachesWithin}
 use Rattle.machine.specs.WithinLaws.{within-reaches}
-use Rattle.certificate.specs.Certificate.{Certificate, crossingAt, crossingCount, pairAt, Road, Makes, order, Fails, Judged, accepts, faults, TrueMap, True}
+use Rattle.certificate.specs.Certificate.{Certificate, crossingAt, crossingCount, pairAt, Road, order, AtPair, Fails, Judged, accepts, faults, TrueMap, True}
 use Rattle.certificate.specs.declared.Condition.{Condition}
 use Rattle.certificate.specs.declared.Condition.the-variants.{Range, Roads, Start, Transitions, Short, Sentences}
 use Rattle.certificate.specs.declared.Verdict.{Verdict}
@@ -78,53 +78,41 @@ right-is true false n = absurd (n refl)
 right-is false b n = absurd (n refl)
 
 -- ---- what is accepted
-module _ {B : Tables} {c : Certificate} (i : InRange B) (ok : (k : Condition) (j : ℕ) → ¬ Fails B c k j) where
-  -- the claims of crossings are closed
-  pub accepted-closed : Closed plain B (c .crossing)
-  accepted-closed = record { bound = λ {q} {a} {v} {z} {p} {q₂} {g} r e t. bound q a v z p q₂ g r e t }
-    where
-      bound : (q a v z p last g : ℕ) → Claimed plain B (c .crossing) q a v z (B .len p) last → B .act last z ≡ Reduce p → B .goto q (B .lhs p) ≡ suc g
-          → c .crossing q (B .lhs p) a z ≤ v
-      bound q a v z p last g r e t =
-          let (lq, lX, lg) = i .gotos q (B .lhs p) g t in
-          let n : ¬ (v < c .crossing q (B .lhs p) a z) = λ h. ok Roads (crossingAt B q (B .lhs p) a z) record {
-            q = q;
-            X = B .lhs p;
-            a = a;
-            z = z;
-            state = lq;
-            nonterminal = lX;
-            first = claimed-terminal r;
-            following = claimed-next r;
-            index = refl;
-            fails = (v, record { production = p; last = last; road = r; reduced = e; left = refl }, h);
-          } in
-          omega arith
+pair-here : {B : Tables} {P : ℕ → ℕ → Type 0} {s z : ℕ} → s < B .states → z < B .terminals → P s z → AtPair B P (crossingCount B + pairAt B s z)
+pair-here {s} {z} ls lz x = record { s = s; z = z; state = ls; terminal = lz; index = refl; fails = x }
 
-  -- no words of a crossing, its goto there or none, cost less than its claim
-  pub accepted-crossing : {q X a z : ℕ} {w : List ℕ} → q < B .states → a < B .terminals → z < B .terminals → Makes B q X a z w → c .crossing q X a z ≤ cap plain (cost plain w)
-  accepted-crossing {q} {X} {a} {z} lq la lz m =
-      let (v, r, h) = closed-below i accepted-closed lz (m .walk) in
-      let lX = rw (m .left) at (i .reduces (m .last) z (m .production) (m .reduced) .2) in
-      let n : ¬ (v < c .crossing q X a z) = λ g. ok Roads (crossingAt B q X a z) record {
+module _ {B : Tables} {c : Certificate} (i : InRange B) (ok : (k : Condition) (j : ℕ) → ¬ Fails B c k j) where
+  -- no claim of a crossing exceeds a road, and so the claims of gotos that are there are closed
+  accepted-road : {q X a z v : ℕ} → q < B .states → Road B (c .crossing) q X a z v → c .crossing q X a z ≤ v
+  accepted-road {q} {X} {a} {z} {v} lq r =
+      let n : ¬ (v < c .crossing q X a z) = λ h. ok Roads (crossingAt B q X a z) record {
         q = q;
         X = X;
         a = a;
         z = z;
         state = lq;
-        nonterminal = lX;
-        first = la;
-        following = lz;
+        nonterminal = rw (r .left) at (i .reduces (r .last) z (r .production) (r .reduced) .2);
+        first = claimed-terminal (r .road);
+        following = claimed-next (r .road);
         index = refl;
-        fails = (v, record { production = m .production; last = m .last; road = r; reduced = m .reduced; left = m .left }, g);
+        fails = (v, r, h);
       } in
       omega arith
 
+  pub accepted-closed : Closed plain B (c .crossing)
+  accepted-closed = record { bound = λ {q} {p} {q₂} {g} r e t. accepted-road (i .gotos q (B .lhs p) g t .0) (record { production = p; last = q₂; road = r; reduced = e; left = refl }) }
+
+  -- no words of a crossing, its goto there or none, cost less than its claim
+  pub accepted-crossing : {q X a z : ℕ} {w : List ℕ} → q < B .states → z < B .terminals → Crosses B q X a z w → c .crossing q X a z ≤ cap plain (cost plain w)
+  accepted-crossing lq lz m =
+      let (v, r, h) = closed-below i accepted-closed lz (m .walk) in
+      le-trans (accepted-road lq (record { production = m .production; last = m .last; road = r; reduced = m .action; left = m .left })) h
+
   -- a pair that fails nothing
   module _ (s z : ℕ) (ls : s < B .states) (lz : z < B .terminals) where
-    pub accepted-marks : c .pair s z ≤ unreached plain
-    accepted-marks =
-        let n : ¬ (unreached plain < c .pair s z) = λ h. ok Range (crossingCount B + pairAt B s z) (inr record { s = s; z = z; state = ls; terminal = lz; index = refl; fails = h }) in
+    pub accepted-in-range : c .pair s z ≤ unreached plain
+    accepted-in-range =
+        let n : ¬ (unreached plain < c .pair s z) = λ h. ok Range (crossingCount B + pairAt B s z) (inr (pair-here ls lz h)) in
         omega arith
 
     pub accepted-start : s ≡ 0 → c .pair s z ≡ 0
@@ -132,20 +120,20 @@ module _ {B : Tables} {c : Certificate} (i : InRange B) (ok : (k : Condition) (j
       where
         go : Dec (c .pair s z ≡ 0) → c .pair s z ≡ 0
         go (yes h) = h
-        go (no h) = absurd (ok Start (crossingCount B + pairAt B s z) record { s = s; z = z; state = ls; terminal = lz; index = refl; fails = (e, h) })
+        go (no h) = absurd (ok Start (crossingCount B + pairAt B s z) (pair-here ls lz (e, h)))
 
     pub accepted-transition : {v : ℕ} → Longer plain B (c .crossing) (c .pair) s z v → c .pair s z ≤ v
     accepted-transition {v} l =
-        let n : ¬ (v < c .pair s z) = λ h. ok Transitions (crossingCount B + pairAt B s z) record { s = s; z = z; state = ls; terminal = lz; index = refl; fails = (v, l, h) } in
+        let n : ¬ (v < c .pair s z) = λ h. ok Transitions (crossingCount B + pairAt B s z) (pair-here ls lz (v, l, h)) in
         omega arith
 
     pub accepted-short : c .pair s z ≢ long plain
-    accepted-short e = ok Short (crossingCount B + pairAt B s z) record { s = s; z = z; state = ls; terminal = lz; index = refl; fails = e }
+    accepted-short e = ok Short (crossingCount B + pairAt B s z) (pair-here ls lz e)
 
     pub accepted-sentence : c .pair s z ≤ plain .limit → (length (c .sentence s z) ≡ c .pair s z) × (reachesWithin B (c .sentence s z) z s ≡ true)
     accepted-sentence h =
         let (e, r) = right-is (eqb (length (c .sentence s z)) (c .pair s z)) (reachesWithin B (c .sentence s z) z s)
-        (λ f. ok Sentences (crossingCount B + pairAt B s z) record { s = s; z = z; state = ls; terminal = lz; index = refl; fails = (h, f) }) in
+        (λ f. ok Sentences (crossingCount B + pairAt B s z) (pair-here ls lz (h, f))) in
         (eqb-true _ _ e, r)
 
   -- from the start no walk costs less than the claim of where it leads
@@ -173,12 +161,12 @@ module _ {B : Tables} {c : Certificate} (i : InRange B) (ok : (k : Condition) (j
           let (e, r) = accepted-sentence s z ls lz h in
           inr (c .sentence s z, within-reaches B (c .sentence s z) z s i r, omega (arith, cost-length (c .sentence s z)))
       go (no h) =
-          let m = accepted-marks s z ls lz in
+          let m = accepted-in-range s z ls lz in
           let n = accepted-short s z ls lz in
           inl (omega arith)
 
   -- so it is a true certificate, but for crossings whose claims are too low
-  pub accepted-true : ((q X a z : ℕ) → q < B .states → X < B .nonterminals → a < B .terminals → z < B .terminals → Exact plain (Makes B q X a z) (c .crossing q X a z)) → True B c
+  pub accepted-true : ((q X a z : ℕ) → q < B .states → X < B .nonterminals → a < B .terminals → z < B .terminals → Exact plain (Crosses B q X a z) (c .crossing q X a z)) → True B c
   accepted-true e = record {
     crossings = e;
     pairs = sound;
@@ -203,14 +191,12 @@ module _ {B : Tables} {c : Certificate} (i : InRange B) (t : True B c) where
       witness : (q X a z g : ℕ) → a < B .terminals → z < B .terminals → B .goto q X ≡ suc g → Attained plain (Crosses B q X a z) (c .crossing q X a z)
       witness q X a z g ha hz e =
           let (lq, lX, lg) = i .gotos q X g e in
-          attained-map plain
-          (λ w m. record { production = m .production; last = m .last; target = g; walk = m .walk; action = m .reduced; left = m .left; transition = e })
-          (t .crossings q X a z lq lX ha hz .attained)
+          t .crossings q X a z lq lX ha hz .attained
 
   -- a road is what some words cost
-  road-attained : {q X a z v : ℕ} → Road B (c .crossing) q X a z v → Attained plain (Makes B q X a z) v
+  road-attained : {q X a z v : ℕ} → Road B (c .crossing) q X a z v → Attained plain (Crosses B q X a z) v
   road-attained r = attained-map plain
-      (λ w k. record { production = r .production; last = r .last; walk = k; reduced = r .reduced; left = r .left })
+      (λ w k. record { production = r .production; last = r .last; walk = k; action = r .reduced; left = r .left })
       (witnessed-above true-witnessed (r .road))
 
   -- one transition more than a true pair is what some words that reach cost

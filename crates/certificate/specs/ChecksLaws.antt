@@ -10,6 +10,7 @@ use Rattle.number.specs.declared.Refusal.{Refusal}
 use Rattle.book.specs.Book.{ofCells, checked}
 use Rattle.book.specs.Call.{admits}
 use Rattle.book.specs.CallLaws.{call-admitted}
+use Rattle.book.specs.IndexLaws.{index-split}
 use Rattle.book.specs.Tables.{tablesOf}
 use Rattle.book.specs.TablesLaws.{Accepted, IsBook, InRange, accepted-book, in-range}
 use Rattle.book.specs.declared.Checked.{Checked}
@@ -21,8 +22,8 @@ use Rattle.walk.specs.Scale.{plain}
 use Rattle.walk.specs.Cost.{Exact}
 use Rattle.walk.specs.CostLaws.{exact-one}
 use Rattle.walk.specs.Map.{IsMap}
-use Rattle.certificate.specs.Certificate.{crossingAt, crossingCount, pairCount, Makes, certificateIn, Judged, accepts, TrueMap}
-use Rattle.certificate.specs.IndexLaws.{index-split}
+use Rattle.walk.specs.Road.{Crosses}
+use Rattle.certificate.specs.Certificate.{crossingAt, crossingCount, pairCount, certificateIn, Judged, accepts, TrueMap}
 use Rattle.certificate.specs.CertificateLaws.{judged-one, sound, accepted-true, complete}
 use Rattle.certificate.specs.Sentences.{spelled, refused, sentencesIn}
 use Rattle.certificate.specs.SentencesLaws.{refused-not-spelled}
@@ -113,7 +114,7 @@ certified-accepted {cells} {crossings} {pairs} {bytes} t =
 -- .. which is every accepted one that claims no crossing too low ..
 pub accepted-certified : {cells crossings pairs bytes : List ℕ} → Checks cells crossings pairs bytes IsAccepted
     → ((q X a z : ℕ) → q < tablesOf cells .states → X < tablesOf cells .nonterminals → a < tablesOf cells .terminals → z < tablesOf cells .terminals
-    → Exact plain (Makes (tablesOf cells) q X a z) (getD crossings (crossingAt (tablesOf cells) q X a z) 0)) → Certified cells crossings pairs bytes
+    → Exact plain (Crosses (tablesOf cells) q X a z) (getD crossings (crossingAt (tablesOf cells) q X a z) 0)) → Certified cells crossings pairs bytes
 unfolding certificateIn
 accepted-certified {cells} {crossings} {pairs} {bytes} (judges ws end v e j) f =
     let a = spelled-admitted cells crossings pairs bytes ws end e in

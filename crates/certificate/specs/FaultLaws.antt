@@ -9,7 +9,7 @@ use native.Mathlib.Nat.{zero-add, zero-mul, le-refl}
 use native.Mathlib.Omega.{arith}
 use borrow.Author.Tests.{lt-ltb, ltb-true, eq-eqb, ne-eqb, eqb-true}
 use lib.ListN.{length, getD, List·getD-eq-default}
-use Rattle.book.specs.IndexLaws.{row-below, index-first, index-second}
+use Rattle.book.specs.IndexLaws.{row-below, index-first, index-split, index-digits}
 use Rattle.book.specs.Tables.{Tables, tablesOf}
 use Rattle.book.specs.TablesLaws.{Holds, InRange, in-range}
 use Rattle.book.specs.declared.Sizes.{Sizes}
@@ -24,7 +24,7 @@ use Rattle.certificate.specs.AdmissionLaws.{room-small}
 use Rattle.certificate.specs.Certificate.{Certificate, crossingAt, crossingCount, pairAt, pairCount, claimCount, certificateIn, AtCrossing, AtPair, order, Fails, Judged}
 use Rattle.certificate.specs.Search.{Before}
 use Rattle.certificate.specs.SearchLaws.{judged-fault, before-next}
-use Rattle.certificate.specs.IndexLaws.{index-split, at-crossing-below, pair-below, pair-at, crossing-at}
+use Rattle.certificate.specs.IndexLaws.{at-crossing-below, pair-below, pair-at, crossing-at}
 use Rattle.certificate.specs.Sentences.{sentencesIn}
 use Rattle.certificate.specs.Wrong.{WrongSentence, LowestWrong}
 use Rattle.certificate.specs.Faults.{failsAlone, InRow, InRows, wordsOf, lentIn, Lent, Searched}
@@ -266,16 +266,12 @@ module _ {d : Sizes} {cells crossings pairs bytes : List ℕ} (l : Lent d cells 
       → Searched (Fails (tablesOf cells) (lentIn d cells crossings pairs bytes) Sentences) (length crossings) (length pairs) r
   unfolding certificateIn
   sentences-searched {r} w = pairs-searched _ (WrongSentence (tablesOf cells) (d .t) pairs (wordsOf (sentencesIn (d .t) bytes pairs))) (length pairs) (le-refl _) (le-refl _)
-      (λ s z ls lz h x. (x .claimed, rw (digits s z ls lz .0, digits s z ls lz .1) at (x .wrong)))
-      (λ s z ls lz (h, x). (pair-inside ls lz, record { there = pair-inside ls lz; claimed = h; wrong = rw (digits s z ls lz .0, digits s z ls lz .1) x }))
+      (λ s z ls lz h x. (x .claimed, rw (digits s z lz .1, digits s z lz .0) at (x .wrong)))
+      (λ s z ls lz (h, x). (pair-inside ls lz, record { there = pair-inside ls lz; claimed = h; wrong = rw (digits s z lz .1, digits s z lz .0) x }))
       (rw words-same at (w .is (l .written .ws) (l .written .end) (l .written .whole)))
     where
-      digits : (s z : ℕ) → s < tablesOf cells .states → z < tablesOf cells .terminals → (pairAt (tablesOf cells) s z % d .t ≡ z) × (pairAt (tablesOf cells) s z / d .t ≡ s)
-      digits s z ls lz =
-          let k = pairAt (tablesOf cells) s z in
-          let g = index-split (tablesOf cells .states) (tablesOf cells .terminals) k (pair-below (tablesOf cells) s z ls lz) in
-          let t = tablesOf cells .terminals in
-          rw (← terminals-are (l .holds)) (index-second t (k / t) s (k % t) z (g .low) lz (g .same), index-first t (k / t) s (k % t) z (g .low) lz (g .same))
+      digits : (s z : ℕ) → z < tablesOf cells .terminals → (pairAt (tablesOf cells) s z / d .t ≡ s) × (pairAt (tablesOf cells) s z % d .t ≡ z)
+      digits s z lz = rw (← terminals-are (l .holds)) (index-digits (tablesOf cells .terminals) s z lz)
 
   -- ---- where no claim is over 1,002
   module _ (f : Before (Fails (tablesOf cells) (lentIn d cells crossings pairs bytes)) 1) where

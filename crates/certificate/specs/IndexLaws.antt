@@ -2,10 +2,8 @@
 use mathlib.Core.Logic.{⊎-elim}
 use mathlib.Core.Path.{_≡_, sym}
 use Prim.Native.Nat.{ℕ, _+_, _*_, _/_, _%_, _≤_, _<_}
-use native.Mathlib.Decide.{decLt}
-use native.Mathlib.Nat.{mod-lt, div-lt-iff-lt-mul, div-add-mod', mul-zero}
 use native.Mathlib.Omega.{arith}
-use Rattle.book.specs.IndexLaws.{index-below, index-first, index-second}
+use Rattle.book.specs.IndexLaws.{index-below, index-first, index-second, index-split}
 use Rattle.book.specs.Tables.{Tables}
 use Rattle.certificate.specs.Certificate.{Certificate, crossingAt, crossingCount, pairAt, pairCount, claimCount, AtCrossing, AtPair, Fails}
 use Rattle.certificate.specs.declared.Condition.{Condition}
@@ -52,19 +50,7 @@ fails-below B c Transitions i x = at-pair-between x .1
 fails-below B c Short i x = at-pair-between x .1
 fails-below B c Sentences i x = at-pair-between x .1
 
--- ---- an index has its digits
-pub record Digits (A B i : ℕ) : Type 0 where
-  pub high : i / B < A
-  pub low : i % B < B
-  pub same : i / B * B + i % B ≡ i
-
-pub index-split : (A B i : ℕ) → i < A * B → Digits A B i
-index-split A B i h = go (decLt 0 B)
-  where
-    go : Dec (0 < B) → Digits A B i
-    go (yes some) = record { high = div-lt-iff-lt-mul some .1 h; low = mod-lt i some; same = div-add-mod' i B }
-    go (no none) = let e : B ≡ 0 = omega arith in absurd (omega (arith, rw e at h, mul-zero A))
-
+-- ---- what stands at an index
 module _ {B : Tables} where
   -- the pair of a place in its row
   pub pair-at : {P : ℕ → ℕ → Type 0} (k : ℕ) → k < pairCount B → P (k / B .terminals) (k % B .terminals) → AtPair B P (crossingCount B + k)

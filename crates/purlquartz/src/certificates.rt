@@ -14,7 +14,5 @@ pub extern "C" fn purlquartz_check_certificate(
 )
     ensures { λ _. ⌜ now (answer .exit) ≡ toldVerdict (checking (now (cells .entry)) (now (crossings .entry)) (now (pairs .entry)) (now (sentences .entry))) ⌝ }
 {
-    *answer = tell_verdict(certificate::check_certificate(
-        cells, crossings, pairs, sentences,
-    ));
+    *answer = tell_verdict(certificate::check_certificate(cells, crossings, pairs, sentences));
 }

@@ -4,11 +4,11 @@ use mathlib.Core.Logic.{_⊎_, inl, inr}
 use mathlib.Core.Path.{_≡_, sym, _∙_}
 use Prim.Native.Nat.{ℕ, _+_, _*_, _/_, _%_, _≤_, _<_}
 use native.Mathlib.Decide.{ℕ-discrete}
-use native.Mathlib.Nat.{div-add-mod', div-lt-iff-lt-mul, mod-lt, mul-le-mul-right}
+use native.Mathlib.Nat.{div-add-mod', mod-lt, mul-le-mul-right}
 use native.Mathlib.Omega.{arith}
 use lib.ListN.{length, getD, set, length-set}
 use lib.Seq.{getD-set-same, getD-set-other}
-use Rattle.book.specs.IndexLaws.{index-below, index-first, index-second}
+use Rattle.book.specs.IndexLaws.{index-below, index-first, index-second, Digits, index-split, index-digits}
 use Rattle.book.specs.RangeLaws.{Small}
 use Rattle.book.specs.Tables.{tablesOf}
 use Rattle.book.specs.TablesLaws.{Holds, act-some, goto-some}
@@ -26,16 +26,6 @@ use Rattle.roads.specs.Lowest.{Lowest}
 use Rattle.roads.specs.LowestLaws.{lowest-map}
 use Rattle.roads.specs.Pairs.{pairIn, PairsIn, OverLayer, PairExceeds}
 
--- ---- the state and the terminal of an index
-pub pair-digits : {t : ℕ} (k s : ℕ) → 1 ≤ t → k < s * t → (k / t < s) × (k % t < t)
-pair-digits {t} k s h l = (div-lt-iff-lt-mul {k = t} {x = k} {y = s} (omega arith) .1 l, mod-lt k (omega arith))
-
-pair-digits-are : {t : ℕ} (q z : ℕ) → z < t → ((q * t + z) / t ≡ q) × ((q * t + z) % t ≡ z)
-pair-digits-are {t} q z h =
-    let k = q * t + z in
-    let r : k % t < t = mod-lt k (omega arith) in
-    (index-first t (k / t) q (k % t) z r h (div-add-mod' k t), index-second t (k / t) q (k % t) z r h (div-add-mod' k t))
-
 pub pairs-few : {d : Sizes} {n : ℕ} → Small d → n ≡ d .s * d .t → n ≤ 128 * d .t
 pairs-few {d} s e = omega (arith, mul-le-mul-right (d .t) (s .states))
 
@@ -43,18 +33,18 @@ pairs-few {d} s e = omega (arith, mul-le-mul-right (d .t) (s .states))
 pub pairs-more : {t k : ℕ} {pairs values : List ℕ} → 1 ≤ t → t ≤ 32 → k < 128 * t → PairsIn t pairs k values → PairsIn t pairs (k + 1) (set values (k / t * 32 + k % t) (getD pairs k 0))
 pairs-more {t} {k} {pairs} {values} h m l p = record { size = length-set values (k / t * 32 + k % t) (getD pairs k 0) ∙ p .size; same = λ j b. same j b (ℕ-discrete j k) }
   where
-    digits : (k / t < 128) × (k % t < t)
-    digits = pair-digits k 128 h l
+    digits : Digits 128 t k
+    digits = index-split 128 t k l
 
     apart : (j : ℕ) → ¬ (j ≡ k) → ¬ (j / t * 32 + j % t ≡ k / t * 32 + k % t)
     apart j n e =
         let r : j % t < t = mod-lt j (omega arith) in
-        let f : j / t ≡ k / t = index-first 32 (j / t) (k / t) (j % t) (k % t) (omega arith) (omega (arith, digits .1)) e in
-        let g : j % t ≡ k % t = index-second 32 (j / t) (k / t) (j % t) (k % t) (omega arith) (omega (arith, digits .1)) e in
+        let f : j / t ≡ k / t = index-first 32 (j / t) (k / t) (j % t) (k % t) (omega arith) (omega (arith, digits .low)) e in
+        let g : j % t ≡ k % t = index-second 32 (j / t) (k / t) (j % t) (k % t) (omega arith) (omega (arith, digits .low)) e in
         n (sym (div-add-mod' j t) ∙ rw (f, g) (div-add-mod' k t))
 
     same : (j : ℕ) → j < k + 1 → Dec (j ≡ k) → getD (set values (k / t * 32 + k % t) (getD pairs k 0)) (j / t * 32 + j % t) 0 ≡ getD pairs j 0
-    same j b (yes e) = rw e (getD-set-same values (k / t * 32 + k % t) (getD pairs k 0) 0 (omega (arith, digits .0, digits .1, p .size)))
+    same j b (yes e) = rw e (getD-set-same values (k / t * 32 + k % t) (getD pairs k 0) 0 (omega (arith, digits .high, digits .low, p .size)))
     same j b (no n) = getD-set-other values (k / t * 32 + k % t) (j / t * 32 + j % t) (getD pairs k 0) 0 (apart j n) ∙ p .same j (omega arith)
 
 -- ---- one transition more from costs that are the same for the states and terminals of a book
@@ -70,7 +60,7 @@ module _ {d : Sizes} {cells pairs values flags : List ℕ} (h : Holds d cells) (
   layer-pair : (q z : ℕ) → q < d .s → z < d .t → valueIn plain values flags q z ≡ pairIn (d .t) pairs q z
   unfolding pairIn
   layer-pair q z hq hz =
-      let (state, next) = pair-digits-are q z hz in
+      let (state, next) = index-digits _ q z hz in
       value-read plain values flags q z (on .all q hq) ∙ (rw (state, next) at (p .same (q * d .t + z) (omega (arith, index-below (d .s) (d .t) q z hq hz))))
 
   pub pairs-exceeded : {claim : Claims} {L : ℕ → ℕ → ℕ} {r : ℕ} → ((k : ℕ) → getD pairs k 0 ≤ unreached plain) → Lengthened plain (tablesOf cells) claim (valueIn plain values flags) L
@@ -78,28 +68,28 @@ module _ {d : Sizes} {cells pairs values flags : List ℕ} (h : Holds d cells) (
   unfolding pairIn
   pairs-exceeded {claim} {L} most l = lowest-map out into
     where
-      exceeds : (k : ℕ) → (k / d .t < d .s) × (k % d .t < d .t) → L (k / d .t) (k % d .t) < getD pairs k 0
+      exceeds : (k : ℕ) → Digits (d .s) (d .t) k → L (k / d .t) (k % d .t) < getD pairs k 0
           → (L (k / d .t) (k % d .t) ≡ unreached plain) ⊎ Longer plain (tablesOf cells) claim (valueIn plain values flags) (k / d .t) (k % d .t) (L (k / d .t) (k % d .t)) → PairExceeds d (tablesOf cells) claim pairs k
-      exceeds k (hs, hz) o (inl e) = absurd (omega (arith, most k))
-      exceeds k (hs, hz) o (inr x) = record {
+      exceeds k g o (inl e) = absurd (omega (arith, most k))
+      exceeds k g o (inr x) = record {
         s = k / d .t;
         z = k % d .t;
         v = L (k / d .t) (k % d .t);
-        state = hs;
-        terminal = hz;
-        index = sym (div-add-mod' k (d .t));
+        state = g .high;
+        terminal = g .low;
+        index = sym (g .same);
         longer = longer-same h layer-pair x;
-        exceeds = rw (div-add-mod' k (d .t)) o;
+        exceeds = rw (g .same) o;
       }
 
       out : (k : ℕ) → OverLayer (d .t) pairs L k → PairExceeds d (tablesOf cells) claim pairs k
       out k x =
-          let digits = pair-digits k (d .s) (h .small .some-terminal) (rw n at (x .inside)) in
-          exceeds k digits (x .over) (l (k / d .t) (k % d .t) (terminal h (digits .1)) .attained)
+          let digits = index-split (d .s) (d .t) k (rw n at (x .inside)) in
+          exceeds k digits (x .over) (l (k / d .t) (k % d .t) (terminal h (digits .low)) .attained)
 
       over : (s z v : ℕ) → s < d .s → z < d .t → Longer plain (tablesOf cells) claim (pairIn (d .t) pairs) s z v → v < pairIn (d .t) pairs s z → OverLayer (d .t) pairs L (s * d .t + z)
       over s z v hs hz x o =
-          let (state, next) = pair-digits-are s z hz in
+          let (state, next) = index-digits _ s z hz in
           let least = l s z (terminal h hz) .below v (longer-same h (λ q b hq hb. sym (layer-pair q b hq hb)) x) in
           record { inside = omega (arith, index-below (d .s) (d .t) s z hs hz); over = rw (state, next) (omega arith) }
 

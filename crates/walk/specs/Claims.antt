@@ -7,21 +7,10 @@ use lib.ListN.{drop}
 use Rattle.book.specs.Tables.{Tables}
 use Rattle.book.specs.declared.Action.the-variants.{Shift, Reduce}
 use Rattle.walk.specs.Walk.{Walk}
-pub use Rattle.walk.specs.Road.{Claims, Claimed, none, shifting, crossing}
+pub use Rattle.walk.specs.Road.{Crosses, Claims, Claimed, none, shifting, crossing}
 use Rattle.walk.specs.Scale.{Scale, unreached, cap}
 use Rattle.walk.specs.Cost.{cost, Attained}
 use Rattle.walk.specs.Sum.{plus, shiftCost}
-
--- w crosses the goto of state q under the nonterminal X, where z follows and a is the first terminal of w z: a walk of the length of a
--- production of X, to a state that reduces it under z
-pub record Crosses (B : Tables) (q X a z : ℕ) (w : List ℕ) : Type 0 where
-  pub production : ℕ
-  pub last : ℕ
-  pub target : ℕ
-  pub walk : Walk B q a w z (B .len production) last
-  pub action : B .act last z ≡ Reduce production
-  pub left : B .lhs production ≡ X
-  pub transition : B .goto q X ≡ suc target
 
 -- `Descends` by claims: an end from the stack, or a claimed walk to a reduction that pops the stack below the top, and then from the smaller stack
 pub data ClaimedDescends (σ : Scale) (B : Tables) (claim : Claims) (End : ℕ → List ℕ → ℕ → ℕ → ℕ → Type 0) : List ℕ → ℕ → ℕ → Type 0 where

@@ -28,10 +28,8 @@ module _ (σ : Scale) {B : Tables} where
       → Attained σ (λ w. Walk B q a w z (suc n) g) (plus σ v x)
   attained-cross a b g = attained-plus σ (λ w y r c. crossed r (c .walk) (c .action) refl (rw (c .left) g)) a b
 
-  pub attained-crossing : {q a v z p q₂ g : ℕ} → Attained σ (λ w. Walk B q a w z (B .len p) q₂) v → B .act q₂ z ≡ Reduce p → B .goto q (B .lhs p) ≡ suc g
-      → Attained σ (Crosses B q (B .lhs p) a z) v
-  attained-crossing {p} {q₂} {g} x e i =
-      attained-map σ (λ w r. record { production = p; last = q₂; target = g; walk = r; action = e; left = refl; transition = i }) x
+  pub attained-crossing : {q a v z p q₂ : ℕ} → Attained σ (λ w. Walk B q a w z (B .len p) q₂) v → B .act q₂ z ≡ Reduce p → Attained σ (Crosses B q (B .lhs p) a z) v
+  attained-crossing {p} {q₂} x e = attained-map σ (λ w r. record { production = p; last = q₂; walk = r; action = e; left = refl }) x
 
 -- how a claimed walk begins
 pub data Start (σ : Scale) (B : Tables) (claim : Claims) (q a : ℕ) : ℕ → ℕ → ℕ → ℕ → Type 0 where
@@ -226,15 +224,15 @@ least-serves {σ} {B} {claim} {G} {Goal} {r} near least = record {
 
 module _ {σ : Scale} {B : Tables} {claim : Claims} (i : InRange B) (c : Closed σ B claim) where
   -- no crossing costs less than its claim
-  pub claim-least : {q X a z : ℕ} {w : List ℕ} → z < B .terminals → Crosses B q X a z w → claim q X a z ≤ cap σ (cost σ w)
-  claim-least h x =
+  pub claim-least : {q X a z g : ℕ} {w : List ℕ} → z < B .terminals → B .goto q X ≡ suc g → Crosses B q X a z w → claim q X a z ≤ cap σ (cost σ w)
+  claim-least {g} h t x =
       let (v, d, l) = closed-below i c h (x .walk) in
-      le-trans (rw (x .left) at (c .bound {g = x .target} d (x .action) (rw (x .left) (x .transition)))) l
+      le-trans (rw (x .left) at (c .bound {g = g} d (x .action) (rw (x .left) t))) l
 
   module _ (k : Witnessed σ B claim) where
     -- (iii) closed and witnessed claims are exact
     pub claim-exact : {q X a z g : ℕ} → a < B .terminals → z < B .terminals → B .goto q X ≡ suc g → Exact σ (Crosses B q X a z) (claim q X a z)
-    claim-exact {q} {X} {a} {z} ha hz g = record { least = λ w x. claim-least hz x; attained = k .witness q X a z ha hz g }
+    claim-exact {q} {X} {a} {z} ha hz g = record { least = λ w x. claim-least hz g x; attained = k .witness q X a z ha hz g }
 
     -- (iv) the claimed walks of n transitions stand for the walks, and so the least over them is exact
     pub walk-matches : {q a z n q′ : ℕ} → z < B .terminals → Matches σ (λ v. Claimed σ B claim q a v z n q′) (λ w. Walk B q a w z n q′)

@@ -1,8 +1,18 @@
--- Transitions in a row at claimed costs: a road. Assumes nothing.
-use Rattle.number.specs.Words.{_≡_, ℕ, suc, _<_}
+-- Crossings of gotos, and transitions in a row at claimed costs: a road. Assumes nothing.
+use Rattle.number.specs.Words.{List, _≡_, ℕ, suc, _<_}
 use Rattle.book.specs.{Tables.Tables, declared.Action.Action}
 use Rattle.walk.specs.Scale.{Scale}
 use Rattle.walk.specs.Sum.{plus, shiftCost}
+use Rattle.walk.specs.Walk.{Walk}
+
+-- w crosses from state q under the nonterminal X, the goto there or none, where z follows and a is the first terminal of w z: a walk of the
+-- length of a production of X, to a state that reduces it under z
+pub record Crosses (B : Tables) (q X a z : ℕ) (w : List ℕ) : Type 0 where
+  pub production : ℕ
+  pub last : ℕ
+  pub walk : Walk B q a w z (B .len production) last
+  pub action : B .act last z ≡ Action.Reduce production
+  pub left : B .lhs production ≡ X
 
 -- a table of claims: what the cheapest crossing of (q, X, a, z) costs
 abbrev pub Claims : Type 0

@@ -43,6 +43,8 @@ fn main() {
     print_books(quick);
     println!();
     print_growth(quick);
+    println!();
+    print_certificates();
 }
 
 fn shipped(name: &str) -> Book {
@@ -135,6 +137,33 @@ fn print_book(name: &str, book: &Book) {
 fn both_times(library: measure::Time, independent: measure::Time) -> String {
     let ratio = ratio(library, independent);
     format!("{} / {} = {ratio}", shown(library), shown(independent))
+}
+
+/// The check of true certificates beside the map. The maker is of this package, and not proved.
+fn print_certificates() {
+    println!("| book | claims | bytes of sentences | made in | map | check of the certificate |");
+    println!("|---|---|---|---|---|---|");
+    for name in SHIPPED {
+        print_certificate(name, &shipped(name));
+    }
+    print_certificate("doubling", &doubling());
+}
+
+fn print_certificate(name: &str, book: &Book) {
+    let library = Subject::new(&both::LIBRARY, book);
+    let independent = Subject::new(&both::INDEPENDENT, book);
+    let certificate = library.certificate();
+    println!(
+        "| {name} | {} | {} | {} | {} | {} |",
+        certificate.crossings.len() + certificate.pairs.len(),
+        certificate.sentences.len(),
+        shown(library.make_certificate()),
+        both_times(library.map(), independent.map()),
+        both_times(
+            library.check_certificate(&certificate),
+            independent.check_certificate(&certificate)
+        )
+    );
 }
 
 /// How the map's time grows when one size is doubled and the others stay.

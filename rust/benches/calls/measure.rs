@@ -6,7 +6,8 @@ use crate::independent::calls::map_of;
 use crate::random::lists::{covering, encode_list};
 use crate::random::ranks::unranked;
 use crate::random::Random;
-use purlquartz::{LONG, MOST_CELLS, SENTENCE_BYTES, STACK_CELLS, UNREACHED};
+use purlquartz::certificate::{make, Certificate};
+use purlquartz::{Verdict, LONG, MOST_CELLS, SENTENCE_BYTES, STACK_CELLS, UNREACHED};
 use std::hint::black_box;
 use std::time::{Duration, Instant};
 
@@ -165,6 +166,32 @@ impl<'a> Subject<'a> {
         timed(|| {
             let judged = (self.calls.judge)(&self.cells, &self.list, &mut work, &mut stack);
             black_box(judged).expect("a judgement");
+        })
+    }
+
+    pub fn certificate(&self) -> Certificate {
+        make(&self.cells).expect("a certificate")
+    }
+
+    pub fn make_certificate(&self) -> Time {
+        timed(|| {
+            black_box(self.certificate());
+        })
+    }
+
+    pub fn check_certificate(&self, certificate: &Certificate) -> Time {
+        let Certificate {
+            crossings,
+            pairs,
+            sentences,
+        } = certificate;
+        timed(|| {
+            let verdict = (self.calls.check_certificate)(&self.cells, crossings, pairs, sentences);
+            assert_eq!(
+                black_box(verdict),
+                Ok(Verdict::Accepted),
+                "a wrong one has no time"
+            );
         })
     }
 }

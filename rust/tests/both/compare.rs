@@ -5,7 +5,8 @@ use super::lent::{Lent, Memory};
 use super::{Calls, INDEPENDENT};
 use crate::independent::book::Book;
 use crate::independent::calls::find_all;
-use purlquartz::{Refusal, Rest};
+use purlquartz::certificate::Certificate;
+use purlquartz::{Refusal, Rest, Verdict};
 use std::fmt::Debug;
 
 /// What both answered, in a word: a refusal's number, or the name of the case. Or how they differ.
@@ -203,4 +204,24 @@ pub fn judge(
         (answer, ((cells, list), (work, stack)))
     };
     same("judge", made(subject), made(&INDEPENDENT))
+}
+
+/// The word of a fault is the name of its condition.
+pub fn check_certificate(subject: &Calls, cells: &[u16], certificate: &Certificate) -> Outcome {
+    let made = |calls: &Calls| {
+        let cells = Lent::holding(cells);
+        let crossings = Lent::holding(&certificate.crossings);
+        let pairs = Lent::holding(&certificate.pairs);
+        let sentences = Lent::holding(&certificate.sentences);
+        let rows = (crossings.part(), pairs.part(), sentences.part());
+        let answer = (calls.check_certificate)(cells.part(), rows.0, rows.1, rows.2);
+        (answer, ((cells, crossings), (pairs, sentences)))
+    };
+    let expected = made(&INDEPENDENT);
+    let answer = expected.0;
+    let outcome = same("check_certificate", made(subject), expected)?;
+    Ok(match answer {
+        Ok(Verdict::Fault { condition, .. }) => format!("{condition:?}"),
+        _ => outcome,
+    })
 }

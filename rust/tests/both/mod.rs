@@ -10,6 +10,8 @@ use purlquartz::*;
 type Refused<T> = Result<T, Refusal>;
 /// A call that writes the book of some cells to others, in one of the forms.
 pub type Converter = fn(&[u16], &mut [u16]) -> Refused<usize>;
+/// Takes a book, the two rows of a certificate and its sentences.
+pub type Checker = fn(&[u16], &[u16], &[u16], &[u8]) -> Refused<Verdict>;
 
 #[allow(clippy::type_complexity)] // each type is spelled as its call's
 pub struct Calls {
@@ -27,6 +29,7 @@ pub struct Calls {
     pub entries: fn(&[u16], &[u8]) -> Refused<Vec<Entry>>,
     pub next_entry: fn(&[u8], Rest) -> Option<(Entry, Rest)>,
     pub judge: fn(&[u16], &[u8], &mut [u16], &mut [u16]) -> Refused<Judgement>,
+    pub check_certificate: Checker,
 }
 
 impl Calls {
@@ -81,6 +84,7 @@ pub const LIBRARY: Calls = Calls {
     entries: collected,
     next_entry,
     judge,
+    check_certificate,
 };
 
 pub const INDEPENDENT: Calls = Calls {
@@ -98,4 +102,5 @@ pub const INDEPENDENT: Calls = Calls {
     entries: calls::entries,
     next_entry: calls::next_entry,
     judge: calls::judge,
+    check_certificate: calls::check_certificate,
 };

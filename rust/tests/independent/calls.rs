@@ -1,6 +1,7 @@
 //! Every call of the library, over lent memory.
 
 use super::book::{Action, Book};
+use super::certificate::Certificate;
 use super::numbers::refuse;
 use super::reach::{distances, map_cell};
 use super::summaries::Summaries;
@@ -249,4 +250,14 @@ fn judge_cover(book: &Book, covered: &[bool]) -> Judgement {
         },
         None => Judgement::Complete,
     }
+}
+
+pub fn check_certificate(
+    cells: &[u16],
+    crossings: &[u16],
+    pairs: &[u16],
+    sentences: &[u8],
+) -> Result<Verdict, Refusal> {
+    let book = Book::from_cells(cells)?;
+    Ok(Certificate::decode(&book, crossings, pairs, sentences)?.verdict())
 }

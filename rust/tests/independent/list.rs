@@ -2,6 +2,7 @@
 
 use super::numbers::{refuse, Bytes, Source};
 use purlquartz::{Entry, Refusal, Rest};
+use std::ops::Range;
 
 pub struct List {
     pub first: usize,
@@ -46,6 +47,20 @@ pub fn next(bytes: &[u8], rest: Rest) -> Option<(Entry, Rest)> {
 }
 
 fn decode_entry(source: &mut Bytes, terminals: u16) -> Result<Entry, Refusal> {
+    let symbols = decode_sentence(source, terminals)?;
+    let lookahead = source.next()?;
+    if lookahead.value >= terminals {
+        return refuse(11, lookahead.place);
+    }
+    Ok(Entry {
+        start: symbols.start,
+        length: symbols.len(),
+        lookahead: lookahead.value,
+    })
+}
+
+/// Reads a length and so many symbols, and says where these stand, each in one byte.
+pub fn decode_sentence(source: &mut Bytes, terminals: u16) -> Result<Range<usize>, Refusal> {
     let length = source.next()?;
     if length.value > 1_000 {
         return refuse(8, length.place);
@@ -57,13 +72,5 @@ fn decode_entry(source: &mut Bytes, terminals: u16) -> Result<Entry, Refusal> {
             return refuse(7, symbol.place);
         }
     }
-    let lookahead = source.next()?;
-    if lookahead.value >= terminals {
-        return refuse(11, lookahead.place);
-    }
-    Ok(Entry {
-        start,
-        length: length.value.into(),
-        lookahead: lookahead.value,
-    })
+    Ok(start..source.offset())
 }

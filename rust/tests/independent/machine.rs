@@ -27,6 +27,26 @@ pub fn reduction(book: &Book, stack: &[u16], production: u16) -> Option<Reductio
 
 /// How the run ends, and the stack before the step that was not taken.
 pub fn run(book: &Book, sentence: &[u8], lookahead: u16) -> (Ending, Vec<u16>) {
+    watched_run(book, sentence, lookahead, |_| {})
+}
+
+/// Whether the run, at some moment up to its ending, has all of the sentence in and not the
+/// lookahead, with the state on top.
+pub fn reaches_within_limits(book: &Book, sentence: &[u8], state: u16, lookahead: u16) -> bool {
+    let mut reached = false;
+    watched_run(book, sentence, lookahead, |moment| {
+        reached |= usize::from(moment.taken) == sentence.len() && moment.state == state;
+    });
+    reached
+}
+
+/// A run that shows each of its moments, the ending's too.
+fn watched_run(
+    book: &Book,
+    sentence: &[u8],
+    lookahead: u16,
+    mut see: impl FnMut(Stop),
+) -> (Ending, Vec<u16>) {
     let mut stack = vec![0u16];
     let mut taken = 0;
     let mut reductions = 0;
@@ -38,6 +58,7 @@ pub fn run(book: &Book, sentence: &[u8], lookahead: u16) -> (Ending, Vec<u16>) {
             symbol,
             taken: taken as u16,
         };
+        see(stop);
         match book.action(state.into(), symbol.into()) {
             Action::Accept => return (Ending::Accepted(stop), stack),
             Action::Error => return (Ending::Error(stop), stack),

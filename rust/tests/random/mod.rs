@@ -3,6 +3,7 @@
 
 pub mod books;
 pub mod bytes;
+pub mod certificates;
 pub mod grammars;
 pub mod lists;
 pub mod ranks;

@@ -2,7 +2,7 @@
 use native.Mathlib.Omega.{arith}
 use borrow.Author.Needs.{needs}
 use borrow.Author.Tests.{eq-eqb, ne-eqb}
-use Rattle.certificate.specs.IndexLaws.{index-split}
+use Rattle.book.specs.IndexLaws.{index-split}
 use Rattle.certificate.proofs.sentences.is_right.Statement.{statement}
 use Rattle.certificate.proofs.sentences.is_right.Tie as tie
 

@@ -2,8 +2,9 @@
 use native.Mathlib.Omega.{arith}
 use Prim.Native.Nat.{_-_, _/_, _%_, _≤_, _<_}
 use lib.ListN.{length}
+use Rattle.book.specs.IndexLaws.{Digits, index-split}
 use Rattle.roads.specs.Pairs.{PairsIn}
-use Rattle.roads.specs.PairLaws.{pair-digits, pairs-more}
+use Rattle.roads.specs.PairLaws.{pairs-more}
 use borrow.Author.Needs.{needs}
 use Rattle.roads.proofs.pair.as_layer.Statement.{statement}
 use Rattle.roads.proofs.pair.as_layer.Tie as tie
@@ -18,8 +19,8 @@ loop-holds : tie.Need-loop-holds Inv-loop μ-loop
 loop-holds c = (omega arith, record { size = c .pre .3; same = λ k h. absurd (omega arith) })
 
 -- the digits of this turn's index
-digits : (c : tie.After-shared-slice-known Inv-loop μ-loop) → (c .before .before .loop .k / c .before .before .before .args .t < 128) × (c .before .before .loop .k % c .before .before .before .args .t < c .before .before .before .args .t)
-digits c = pair-digits _ 128 (c .before .before .before .pre .0) (omega (arith, c .before .before .before .pre .2, c .before .loop-test .taken))
+digits : (c : tie.After-shared-slice-known Inv-loop μ-loop) → Digits 128 (c .before .before .before .args .t) (c .before .before .loop .k)
+digits c = index-split 128 _ _ (omega (arith, c .before .before .before .pre .2, c .before .loop-test .taken))
 
 loop-again : tie.Need-loop-again Inv-loop μ-loop
 loop-again c = let p = c .before .before .before .pre in (omega arith, pairs-more (p .0) (p .1) (omega (arith, p .2, c .before .loop-test .taken)) (c .before .before .loop .inv .1))
@@ -37,11 +38,11 @@ as-layer-spec =
     (λ c. search needs)
     (λ c. search needs)
     (λ c. omega (arith, c .before .before .before .pre .0))
-    (λ c. omega (arith, digits c .0))
+    (λ c. omega (arith, digits c .high))
     (λ c. omega (arith, c .before .before .before .pre .0))
-    (λ c. omega (arith, digits c .0, digits c .1, c .before .before .before .pre .1))
-    (λ c. omega (arith, digits c .0, digits c .1, c .before .before .before .pre .1))
-    (λ c. omega (arith, digits c .0, digits c .1, c .before .before .before .pre .1, c .before .before .loop .inv .1 .size))
+    (λ c. omega (arith, digits c .high, digits c .low, c .before .before .before .pre .1))
+    (λ c. omega (arith, digits c .high, digits c .low, c .before .before .before .pre .1))
+    (λ c. omega (arith, digits c .high, digits c .low, c .before .before .before .pre .1, c .before .before .loop .inv .1 .size))
     (λ c. search needs)
     (λ c. search needs)
     loop-again

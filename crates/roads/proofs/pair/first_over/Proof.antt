@@ -7,7 +7,7 @@ use Rattle.walk.specs.Scale.{plain}
 use Rattle.layers.specs.Layer.{valueIn}
 use Rattle.roads.specs.LowestLaws.{lowest-more}
 use Rattle.roads.specs.Pairs.{OverLayer}
-use Rattle.roads.specs.PairLaws.{pair-digits}
+use Rattle.book.specs.IndexLaws.{index-split}
 use borrow.Author.Needs.{needs}
 use Rattle.roads.proofs.pair.first_over.Statement.{statement}
 use Rattle.roads.proofs.pair.first_over.Tie as tie
@@ -24,8 +24,8 @@ loop-holds c = (omega arith, λ j x. omega arith)
 cost-at-requires : tie.Need-cost-at-requires Inv-loop μ-loop
 cost-at-requires c κs =
     let p = c .before .before .before .pre in
-    let (state, next) = pair-digits (c .before .loop .k) 128 (p .0) (omega (arith, p .2, c .loop-test .taken)) in
-    (state, omega (arith, p .1), p .3, p .4)
+    let g = index-split 128 (c .before .before .before .args .t) (c .before .loop .k) (omega (arith, p .2, c .loop-test .taken)) in
+    (g .high, omega (arith, p .1, g .low), p .3, p .4)
 
 returns : tie.Need-returns Inv-loop μ-loop
 returns c = record { below = c .before .before .before .before .loop .inv .1; attained = inr (record { inside = c .before .before .before .loop-test .taken; over = rw (c .before .before .cost-at .ensures) at (c .if1 .taken) }) }
