@@ -126,8 +126,8 @@ fn compare_true(tally: &mut Tally, book: &Book) {
     assert_true(book, &certificate);
     let word = tally.compare(&cells, &certificate);
     match certificate.pairs.contains(&LONG) {
-        true => assert_eq!(word, "Long", "book {cells:?}"),
-        false => assert!(word == "Accepted" || word == "Sentence", "book {cells:?}"),
+        true => assert_eq!(word, "Short", "book {cells:?}"),
+        false => assert!(word == "Accepted" || word == "Sentences", "book {cells:?}"),
     }
 }
 
@@ -147,7 +147,7 @@ fn true_certificates() {
             compare_true(&mut tally, &long_book(&mut random));
         }
     }
-    tally.expect("Accepted Long");
+    tally.expect("Accepted Short");
 }
 
 #[test]
@@ -232,7 +232,7 @@ fn weakened_certificates() {
             }
         }
     }
-    tally.expect("Range Crossing Start Transition Long Sentence");
+    tally.expect("Range Roads Start Transitions Short Sentences");
 }
 
 /// The same on books of real size: for each condition at the first and the last place, and at some
@@ -254,7 +254,7 @@ fn weakened_certificates_of_shipped_books() {
             }
         }
     }
-    tally.expect("Range Crossing Start Transition Long Sentence");
+    tally.expect("Range Roads Start Transitions Short Sentences");
 }
 
 /// Claims that are any numbers, and sentences that are any symbols.
@@ -281,7 +281,7 @@ fn disturbed_certificates() {
             tally.compare(&cells, &pieces.certificate());
         }
     }
-    tally.expect("Accepted Range Crossing Start Transition Long Sentence 7");
+    tally.expect("Accepted Range Roads Start Transitions Short Sentences 7");
 }
 
 /// Books of real size, and a large wild one: in the shipped books no goto that is none has a claim
@@ -302,7 +302,7 @@ fn disturbed_certificates_of_larger_books() {
             tally.compare(&cells, &pieces.certificate());
         }
     }
-    tally.expect("Accepted Range Crossing Transition Sentence");
+    tally.expect("Accepted Range Roads Transitions Sentences");
 }
 
 /// Rows with nothing but one claim, or any claims.
@@ -328,7 +328,7 @@ fn claims_from_nowhere() {
         }
         tally.compare(&book.cells(), &pieces.certificate());
     }
-    tally.expect("Accepted Crossing Transition Long Sentence");
+    tally.expect("Accepted Roads Transitions Short Sentences");
 }
 
 /// A row with some cells lost or added at its end.
@@ -376,7 +376,7 @@ fn damaged_certificates() {
         }
         tally.compare(&cells, &certificate);
     }
-    tally.expect("Accepted Range Crossing Sentence");
+    tally.expect("Accepted Range Roads Sentences");
     tally.expect("1 2 3 4 5 16 14 15 6 7 8");
 }
 
@@ -394,7 +394,7 @@ mod faults {
         *pieces.claim(4) += 1;
         let bad = pieces.certificate();
         let compared = |calls| compare::check_certificate(calls, &book.cells(), &bad);
-        assert_eq!(compared(&INDEPENDENT), Ok("Crossing".to_string()));
+        assert_eq!(compared(&INDEPENDENT), Ok("Roads".to_string()));
         assert!(compared(&subject).is_err());
     }
 

@@ -165,21 +165,21 @@ fn bracket_with_one_claim_off(calls: &Calls) {
         words.collect::<Vec<_>>()
     };
     let raised = [
-        ("Crossing", 8),
         ("Range", 92),
+        ("Roads", 8),
         ("Start", 4),
-        ("Transition", 16),
+        ("Transitions", 16),
     ];
     assert_eq!(tallies[0], seen(&raised));
     let lowered = [
         ("Accepted", 76),
-        ("Crossing", 1),
-        ("Long", 4),
-        ("Sentence", 14),
-        ("Transition", 21),
+        ("Roads", 1),
+        ("Sentences", 14),
+        ("Short", 4),
+        ("Transitions", 21),
     ];
     assert_eq!(tallies[1], seen(&lowered));
-    assert_eq!(digest.sum, 0xd552_3f7e_cf81_f053);
+    assert_eq!(digest.sum, 0x8b76_e4f3_6e75_697d);
 }
 
 /// Accepted, or the name of the condition.
@@ -594,10 +594,7 @@ fn sums_stop(calls: &Calls) {
     // The crossing of `c y` is long, and held to that.
     let start = crossing(&book, [0, 0, 1, 0]);
     assert_eq!(pieces.crossings[start], LONG);
-    assert_eq!(
-        with(&[(start, UNREACHED)]),
-        fault(Condition::Roads, start)
-    );
+    assert_eq!(with(&[(start, UNREACHED)]), fault(Condition::Roads, start));
     assert_eq!(pieces.crossings[crossing(&book, [0, 1, 1, 2])], 1_000);
 }
 

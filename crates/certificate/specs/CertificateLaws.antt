@@ -12,12 +12,10 @@ use lib.Dec.{eqb}
 use lib.ListN.{length}
 use Rattle.book.specs.Tables.{Tables}
 use Rattle.book.specs.TablesLaws.{InRange}
-use Rattle.book.specs.declared.Action.the-variants.{Reduce}
 use Rattle.machine.specs.Machine.{Reaches}
 use Rattle.walk.specs.Walk.{here, shifted, crossed}
 use Rattle.walk.specs.WalkLaws.{reaches-walk, walk-reaches}
 use Rattle.walk.specs.Scale.{plain, long, unreached, cap}
-use Rattle.walk.specs.Scale.{plain}
 use Rattle.walk.specs.Cost.{cost, Attained, Exact}
 use Rattle.walk.specs.CostLaws.{plus-mono, attained-map, attained-plus}
 use Rattle.walk.specs.Claims.{Crosses, Claimed, none, shifting, crossing, Closed, Witnessed}

@@ -1,6 +1,6 @@
 -- Laws of the call, refusal by refusal, and of what is admitted. Assumes nothing.
 use mathlib.Core.List.{List, []}
-use mathlib.Core.Path.{_≡_, sym, _∙_, ap}
+use mathlib.Core.Path.{_≡_, sym, _∙_}
 use Prim.Native.Nat.{ℕ, _*_}
 use native.Mathlib.Omega.{arith}
 use borrow.Author.Tests.{ltb-false}
@@ -11,17 +11,17 @@ use Rattle.book.specs.Book.{ofCells, checked}
 use Rattle.book.specs.Call.{steps}
 use Rattle.book.specs.CallLaws.{steps-none}
 use Rattle.book.specs.Tables.{tablesOf}
-use Rattle.book.specs.TablesLaws.{Accepted, IsBook, accepted-book}
+use Rattle.book.specs.TablesLaws.{Accepted, accepted-book}
 use Rattle.book.specs.declared.Checked.the-variants.{Valid, Refused as CheckedRefused}
 use Rattle.book.specs.declared.Sizes.{Sizes}
 use Rattle.forms.specs.Forms.{inForm1}
 use Rattle.forms.specs.FormsLaws.{withForm, plain-holds, plain-tables}
 use Rattle.layers.specs.Crossing.{room}
-use Rattle.certificate.specs.Certificate.{crossingCount, pairCount, certificateIn, Fails, Judged}
-use Rattle.certificate.specs.Checks.{rowRefusals, certificateRefusals, sentencesOf, Checks, refuses, judges}
+use Rattle.certificate.specs.Certificate.{crossingCount, pairCount, Fails, Judged}
+use Rattle.certificate.specs.Checks.{rowRefusals, certificateRefusals, sentencesOf, refuses, judges}
 use Rattle.certificate.specs.ChecksLaws.{rows-admitted}
 use Rattle.certificate.specs.Faults.{wordsOf, lentIn, Lent}
-use Rattle.certificate.specs.Sentences.{spelled, refused, sentencesIn}
+use Rattle.certificate.specs.Sentences.{sentencesIn}
 use Rattle.certificate.specs.SentencesLaws.{spelledEnd, spelled-refused}
 use Rattle.certificate.specs.Verdict.{checking}
 use Rattle.certificate.specs.VerdictLaws.{checks-iff}

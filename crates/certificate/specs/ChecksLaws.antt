@@ -6,7 +6,6 @@ use native.Mathlib.Omega.{arith}
 use borrow.Author.Tests.{le-ltb, ltb-false}
 use lib.ListN.{length, getD}
 use lib.Seq.{ext-getD}
-use Rattle.number.specs.declared.Refusal.{Refusal}
 use Rattle.book.specs.Book.{ofCells, checked}
 use Rattle.book.specs.Call.{admits}
 use Rattle.book.specs.CallLaws.{call-admitted}
@@ -25,7 +24,7 @@ use Rattle.walk.specs.Map.{IsMap}
 use Rattle.walk.specs.Road.{Crosses}
 use Rattle.certificate.specs.Certificate.{crossingAt, crossingCount, pairCount, certificateIn, Judged, accepts, TrueMap}
 use Rattle.certificate.specs.CertificateLaws.{judged-one, sound, accepted-true, complete}
-use Rattle.certificate.specs.Sentences.{spelled, refused, sentencesIn}
+use Rattle.certificate.specs.Sentences.{spelled, sentencesIn}
 use Rattle.certificate.specs.SentencesLaws.{refused-not-spelled}
 use Rattle.certificate.specs.Checks.{certificateRefusals, spelledIn, sentencesOf, Checks, refuses, judges, Mapped, Certified}
 use Rattle.certificate.specs.declared.Condition.{Condition}

@@ -1,27 +1,27 @@
 -- Laws of the check's parts: what each search finds is where its condition first fails. Assumes nothing.
 use mathlib.Core.Bool.{true, false≢true}
-use mathlib.Core.List.{List, []}
+use mathlib.Core.List.{List}
 use mathlib.Core.Logic.{_⊎_, inl, inr, ⊎-elim, _≢_}
 use mathlib.Core.Path.{_≡_, refl, sym, _∙_, ap}
-use Prim.Native.Nat.{ℕ, suc, _+_, _*_, _/_, _%_, _≤_, _<_}
+use Prim.Native.Nat.{ℕ, suc, _+_, _/_, _%_, _≤_, _<_}
 use native.Mathlib.Decide.{decLt}
 use native.Mathlib.Nat.{zero-add, zero-mul, le-refl}
 use native.Mathlib.Omega.{arith}
 use borrow.Author.Tests.{lt-ltb, ltb-true, eq-eqb, ne-eqb, eqb-true}
 use lib.ListN.{length, getD, List·getD-eq-default}
 use Rattle.book.specs.IndexLaws.{row-below, index-first, index-split, index-digits}
-use Rattle.book.specs.Tables.{Tables, tablesOf}
-use Rattle.book.specs.TablesLaws.{Holds, InRange, in-range}
+use Rattle.book.specs.Tables.{tablesOf}
+use Rattle.book.specs.TablesLaws.{in-range}
 use Rattle.book.specs.declared.Sizes.{Sizes}
 use Rattle.walk.specs.Scale.{plain, long, unreached}
 use Rattle.walk.specs.ClaimsLaws.{claimed-next}
-use Rattle.layers.specs.Crossing.{room, crossingRow, claimIn, Fitted}
+use Rattle.layers.specs.Crossing.{crossingRow, claimIn}
 use Rattle.layers.specs.CrossingLaws.{terminals-are, states-are}
 use Rattle.roads.specs.Lowest.{Lowest, Lowered, Among}
 use Rattle.roads.specs.Roads.{Marked, ByRoads}
 use Rattle.roads.specs.Pairs.{pairIn, PairExceeds}
 use Rattle.certificate.specs.AdmissionLaws.{room-small}
-use Rattle.certificate.specs.Certificate.{Certificate, crossingAt, crossingCount, pairAt, pairCount, claimCount, certificateIn, AtCrossing, AtPair, order, Fails, Judged}
+use Rattle.certificate.specs.Certificate.{crossingAt, crossingCount, pairAt, pairCount, certificateIn, AtCrossing, AtPair, order, Fails, Judged}
 use Rattle.certificate.specs.Search.{Before}
 use Rattle.certificate.specs.SearchLaws.{judged-fault, before-next}
 use Rattle.certificate.specs.IndexLaws.{at-crossing-below, pair-below, pair-at, crossing-at}

@@ -14,9 +14,11 @@
 //   entry k
 //   next_entry i k      from offset i on, with k left
 //   judge n m           n work cells and m stack cells
+//   check_certificate   see certificates.rt
 ghost use mathlib.Core.Path.{_≡_};
 ghost use Prim.Native.Nat.{_≤_};
 ghost use lib.ListN.{length};
+use crate::certificates::check_certificate;
 use crate::numbers::cell;
 use crate::numbers::size;
 use crate::say;
@@ -75,7 +77,7 @@ fn free_words() -> [u32; MASKS]
 }
 
 // So many as the line says, and no more than there are.
-fn room(args: &[u32], k: usize, most: usize) -> usize
+pub fn room(args: &[u32], k: usize, most: usize) -> usize
     ensures { λ r. ⌜ r ≤ most ⌝ }
 {
     let n = size(args, k);
@@ -317,6 +319,10 @@ pub fn call(word: &[u8], args: &[u32], cells: &[u16], bytes: &[u8]) {
         trial::text(b"\n");
     }
     if on_list(word, args, cells, bytes) {
+        trial::text(b"\n");
+    }
+    if check::same(word, b"check_certificate") {
+        check_certificate(args, cells, bytes);
         trial::text(b"\n");
     }
 }

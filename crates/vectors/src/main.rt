@@ -2,6 +2,7 @@
 // the book or the bytes of the calls after it (make.rt), or is a call of the library for C, whose answer and lent memory are printed on
 // one line (calls.rt).
 mod calls;
+mod certificates;
 mod make;
 mod numbers;
 mod say;
@@ -10,7 +11,7 @@ ghost use Prim.Native.Nat.{_≤_, _<_};
 ghost use lib.ListN.{length};
 
 // The most bytes of standard input.
-const TEXT: usize = 131072;
+const TEXT: usize = 262144;
 
 // The most cells of a book and the most bytes, more than a book can have.
 const CELLS: usize = 8600;

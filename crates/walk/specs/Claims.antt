@@ -5,12 +5,11 @@ use mathlib.Core.Path.{_≡_}
 use Prim.Native.Nat.{ℕ, suc, _+_, _≤_, _<_}
 use lib.ListN.{drop}
 use Rattle.book.specs.Tables.{Tables}
-use Rattle.book.specs.declared.Action.the-variants.{Shift, Reduce}
-use Rattle.walk.specs.Walk.{Walk}
+use Rattle.book.specs.declared.Action.the-variants.{Reduce}
 pub use Rattle.walk.specs.Road.{Crosses, Claims, Claimed, none, shifting, crossing}
 use Rattle.walk.specs.Scale.{Scale, unreached, cap}
 use Rattle.walk.specs.Cost.{cost, Attained}
-use Rattle.walk.specs.Sum.{plus, shiftCost}
+use Rattle.walk.specs.Sum.{plus}
 
 -- `Descends` by claims: an end from the stack, or a claimed walk to a reduction that pops the stack below the top, and then from the smaller stack
 pub data ClaimedDescends (σ : Scale) (B : Tables) (claim : Claims) (End : ℕ → List ℕ → ℕ → ℕ → ℕ → Type 0) : List ℕ → ℕ → ℕ → Type 0 where

@@ -84,7 +84,9 @@ pub fn weak_places(book: &Book, pieces: &Pieces, condition: Condition) -> Vec<us
             reached.map(|(index, _)| index).collect()
         }
         Condition::Start => pairs(&|pair| pair < terminals),
-        Condition::Transitions => pairs(&|pair| pair >= terminals && pieces.pairs[pair] < UNREACHED),
+        Condition::Transitions => {
+            pairs(&|pair| pair >= terminals && pieces.pairs[pair] < UNREACHED)
+        }
         Condition::Short => {
             pairs(&|pair| pieces.pairs[pair] == UNREACHED && is_left_nowhere(book, pieces, pair))
         }

@@ -2,8 +2,6 @@
 use denote.Ref.{now}
 use mathlib.Core.Path.{refl}
 use native.Mathlib.Omega.{arith}
-use Prim.Native.Nat.{ℕ, _+_, _<_}
-use lib.ListN.{length}
 use Rattle.certificate.specs.Faults.{HoldTo}
 use Rattle.certificate.specs.FaultLaws.{index-fits, searched-fault, searched-none, start-searched, transitions-searched, short-searched, sentences-searched, range-pairs}
 use Rattle.certificate.specs.SearchLaws.{judged-accepted}

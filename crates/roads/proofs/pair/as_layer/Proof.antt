@@ -1,6 +1,6 @@
 -- `roads::pair::as_layer` meets its contract. Assumes nothing.
 use native.Mathlib.Omega.{arith}
-use Prim.Native.Nat.{_-_, _/_, _%_, _≤_, _<_}
+use Prim.Native.Nat.{_-_, _≤_}
 use lib.ListN.{length}
 use Rattle.book.specs.IndexLaws.{Digits, index-split}
 use Rattle.roads.specs.Pairs.{PairsIn}
