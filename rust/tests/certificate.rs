@@ -12,6 +12,7 @@ mod independent;
 #[path = "../examples/make_book/lalr.rs"]
 mod lalr;
 mod random;
+mod shipped;
 
 use both::compare;
 use both::{Calls, Checker, INDEPENDENT, LIBRARY};
@@ -25,24 +26,8 @@ use random::bytes::{damaged, damaged_cells};
 use random::certificates::{disturb, disturb_sentence, weak_places, weaken, Pieces};
 use random::grammars::long_book;
 use random::Random;
+use shipped::{shipped, SHIPPED};
 use std::collections::BTreeMap;
-use std::fs;
-
-const SHIPPED: [&str; 8] = [
-    "bracket",
-    "double",
-    "double_ranked",
-    "arithmetic",
-    "pattern",
-    "json",
-    "statements",
-    "program",
-];
-
-fn shipped(name: &str) -> Book {
-    let file = format!("{}/../books/{name}.book", env!("CARGO_MANIFEST_DIR"));
-    Book::from_bytes(&fs::read(file).expect("the book is shipped")).expect("a good book")
-}
 
 fn fault(condition: Condition, index: usize) -> Verdict {
     Verdict::Fault { condition, index }

@@ -11,6 +11,7 @@ mod independent;
 #[path = "../examples/make_book/lalr.rs"]
 mod lalr;
 mod random;
+mod shipped;
 
 use both::Calls;
 use grammar::Grammar;
@@ -19,8 +20,8 @@ use independent::calls::map_of;
 use purlquartz::certificate::{make, Certificate};
 use purlquartz::*;
 use random::certificates::Pieces;
+use shipped::{shipped, SHIPPED};
 use std::collections::BTreeMap;
-use std::fs;
 
 on_both! {
     bracket_is_accepted
@@ -41,22 +42,6 @@ on_both! {
     too_deep
     spinning
     shipped_books
-}
-
-const SHIPPED: [&str; 8] = [
-    "bracket",
-    "double",
-    "double_ranked",
-    "arithmetic",
-    "pattern",
-    "json",
-    "statements",
-    "program",
-];
-
-fn shipped(name: &str) -> Book {
-    let file = format!("{}/../books/{name}.book", env!("CARGO_MANIFEST_DIR"));
-    Book::from_bytes(&fs::read(file).expect("the book is shipped")).expect("a good book")
 }
 
 fn grammar_book(text: &str) -> Book {

@@ -11,14 +11,13 @@ use lib.Seq.{getD-set-same, getD-set-other}
 use Rattle.book.specs.IndexLaws.{index-below, index-first, index-second, Digits, index-split, index-digits}
 use Rattle.book.specs.RangeLaws.{Small}
 use Rattle.book.specs.Tables.{tablesOf}
-use Rattle.book.specs.TablesLaws.{Holds, act-some, goto-some}
-use Rattle.book.specs.declared.Action.the-variants.{Shift}
+use Rattle.book.specs.TablesLaws.{Holds, in-range}
 use Rattle.book.specs.declared.Sizes.{Sizes}
-use Rattle.machine.specs.MachineLaws.{clash}
 use Rattle.walk.specs.Scale.{plain, unreached}
 use Rattle.walk.specs.Claims.{Claims}
-use Rattle.walk.specs.Layers.{Longer, add-shift, add-goto}
-use Rattle.layers.specs.CrossingLaws.{terminal, within}
+use Rattle.walk.specs.Layers.{Longer}
+use Rattle.walk.specs.LayersLaws.{longer-as}
+use Rattle.layers.specs.CrossingLaws.{terminal, within, states-are}
 use Rattle.layers.specs.Layer.{valueIn, Lengthened}
 use Rattle.layers.specs.LayerLaws.{value-read}
 use Rattle.layers.specs.States.{AllOn}
@@ -47,19 +46,13 @@ pairs-more {t} {k} {pairs} {values} h m l p = record { size = length-set values 
     same j b (yes e) = rw e (getD-set-same values (k / t * 32 + k % t) (getD pairs k 0) 0 (omega (arith, digits .high, digits .low, p .size)))
     same j b (no n) = getD-set-other values (k / t * 32 + k % t) (j / t * 32 + j % t) (getD pairs k 0) 0 (apart j n) ∙ p .same j (omega arith)
 
--- ---- one transition more from costs that are the same for the states and terminals of a book
-longer-same : {d : Sizes} {cells : List ℕ} {claim : Claims} {L L′ : ℕ → ℕ → ℕ} {q z v : ℕ} → Holds d cells → ((q z : ℕ) → q < d .s → z < d .t → L q z ≡ L′ q z)
-    → Longer plain (tablesOf cells) claim L q z v → Longer plain (tablesOf cells) claim L′ q z v
-longer-same h same (add-shift {q₁} {t} {q₂} z ht e hz) =
-    let (lq, lt, ok) = act-some h q₁ t (Shift q₂) e (λ x. clash cc) in
-    rw (same q₁ t lq lt) (add-shift z ht e hz)
-longer-same h same (add-goto {q₁} {q₂} X b z hb e hz) = rw (same q₁ b (goto-some h q₁ X q₂ e .0) (within h hb)) (add-goto X b z hb e hz)
-
 -- ---- the layer after the pairs' claims
 module _ {d : Sizes} {cells pairs values flags : List ℕ} (h : Holds d cells) (n : length pairs ≡ d .s * d .t) (p : PairsIn (d .t) pairs (length pairs) values) (on : AllOn (d .s) flags) where
-  layer-pair : (q z : ℕ) → q < d .s → z < d .t → valueIn plain values flags q z ≡ pairIn (d .t) pairs q z
+  layer-pair : (q z : ℕ) → q < tablesOf cells .states → z < tablesOf cells .terminals → valueIn plain values flags q z ≡ pairIn (d .t) pairs q z
   unfolding pairIn
-  layer-pair q z hq hz =
+  layer-pair q z lq lz =
+      let hq : q < d .s = rw (states-are h) at lq in
+      let hz = within h lz in
       let (state, next) = index-digits _ q z hz in
       value-read plain values flags q z (on .all q hq) ∙ (rw (state, next) at (p .same (q * d .t + z) (omega (arith, index-below (d .s) (d .t) q z hq hz))))
 
@@ -78,7 +71,7 @@ module _ {d : Sizes} {cells pairs values flags : List ℕ} (h : Holds d cells) (
         state = g .high;
         terminal = g .low;
         index = sym (g .same);
-        longer = longer-same h layer-pair x;
+        longer = longer-as (in-range h) layer-pair x;
         exceeds = rw (g .same) o;
       }
 
@@ -90,7 +83,7 @@ module _ {d : Sizes} {cells pairs values flags : List ℕ} (h : Holds d cells) (
       over : (s z v : ℕ) → s < d .s → z < d .t → Longer plain (tablesOf cells) claim (pairIn (d .t) pairs) s z v → v < pairIn (d .t) pairs s z → OverLayer (d .t) pairs L (s * d .t + z)
       over s z v hs hz x o =
           let (state, next) = index-digits _ s z hz in
-          let least = l s z (terminal h hz) .below v (longer-same h (λ q b hq hb. sym (layer-pair q b hq hb)) x) in
+          let least = l s z (terminal h hz) .below v (longer-as (in-range h) (λ q b lq lb. sym (layer-pair q b lq lb)) x) in
           record { inside = omega (arith, index-below (d .s) (d .t) s z hs hz); over = rw (state, next) (omega arith) }
 
       into : (k : ℕ) → PairExceeds d (tablesOf cells) claim pairs k → OverLayer (d .t) pairs L k

@@ -6,6 +6,7 @@ use native.Mathlib.Nat.{le-trans, le-refl}
 use native.Mathlib.Decide.{decLt}
 use native.Mathlib.Omega.{arith}
 use Rattle.book.specs.Tables.{Tables}
+use Rattle.book.specs.TablesLaws.{InRange}
 use Rattle.walk.specs.Walk.{Walk}
 use Rattle.walk.specs.Scale.{Scale, long, unreached}
 use Rattle.walk.specs.Cost.{Attained}
@@ -50,6 +51,11 @@ module _ {σ : Scale} {B : Tables} {claim : Claims} where
       go : Dec (bound < L q′ z) → LeastWhere σ (λ x. x ≤ bound) (λ v. Claimed σ B claim q a v z n q′) (cut σ bound (L q′ z))
       go (yes k) = rw (cut-beyond σ bound (L q′ z) k) (record { below = λ x c i. absurd (omega (arith, l q′ z h .below x c i)); attained = inl refl })
       go (no k) = rw (cut-within σ bound (L q′ z) (omega arith)) (l q′ z h)
+
+  -- costs that agree in the states and terminals of the book lead to the same
+  pub longer-as : {K L : ℕ → ℕ → ℕ} {q z v : ℕ} → InRange B → ((q′ b : ℕ) → q′ < B .states → b < B .terminals → L q′ b ≡ K q′ b) → Longer σ B claim L q z v → Longer σ B claim K q z v
+  longer-as i e (add-shift {q₁} {t} {q₂} z k a h) = rw (e q₁ t (i .shifts q₁ t q₂ a .0) k) (add-shift z k a h)
+  longer-as i e (add-goto {q₁} {q₂} X b z k g h) = rw (e q₁ b (i .gotos q₁ X q₂ g .0) k) (add-goto X b z k g h)
 
   -- a whole layer is one as far as anything says
   pub layer-where : {q a n : ℕ} {L : ℕ → ℕ → ℕ} (C : ℕ → ℕ → ℕ → Type 0) → Layer σ B claim q a n L → LayerWhere σ B claim C q a n L
