@@ -9,7 +9,7 @@ use Rattle.certificate.specs.Checks.{sentencesOf}
 use Rattle.certificate.specs.declared.{Condition.Condition, Verdict.Verdict}
 
 -- ---- the least cost of a road
--- one transition more, to the state q: by a shift, or by a goto that costs so much
+-- one transition more, to the state q: by a shift, which 'counts 1', or by a goto that counts its claim
 abbrev pub byShift : ℕ → ℕ → Action → ℕ
 byShift v q Action.Error = unreached plain
 byShift v q Action.Accept = unreached plain
