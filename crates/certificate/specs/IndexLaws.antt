@@ -1,9 +1,9 @@
--- Laws of the claims' indices: each claim has one, in the order of its digits, the pairs after the crossings. Assumes nothing.
+-- Laws of the claims' indices: where each lies, and whose an index is, the pairs' after the crossings'. Assumes nothing.
 use mathlib.Core.Logic.{⊎-elim}
 use mathlib.Core.Path.{_≡_, sym}
 use Prim.Native.Nat.{ℕ, _+_, _*_, _/_, _%_, _≤_, _<_}
 use native.Mathlib.Omega.{arith}
-use Rattle.book.specs.IndexLaws.{index-below, index-first, index-second, index-split}
+use Rattle.book.specs.IndexLaws.{index-below, index-split}
 use Rattle.book.specs.Tables.{Tables}
 use Rattle.certificate.specs.Certificate.{Certificate, crossingAt, crossingCount, pairAt, pairCount, claimCount, AtCrossing, AtPair, Fails}
 use Rattle.certificate.specs.declared.Condition.{Condition}
@@ -18,21 +18,6 @@ module _ (B : Tables) where
 
   pub pair-below : (s z : ℕ) → s < B .states → z < B .terminals → pairAt B s z < pairCount B
   pair-below s z ls lz = index-below (B .states) (B .terminals) s z ls lz
-
-  -- no two crossings have one index, and no two pairs
-  pub crossing-one : (q X a z q′ X′ a′ z′ : ℕ) → X < B .nonterminals → a < B .terminals → z < B .terminals → X′ < B .nonterminals → a′ < B .terminals → z′ < B .terminals
-      → crossingAt B q X a z ≡ crossingAt B q′ X′ a′ z′ → (q ≡ q′) × (X ≡ X′) × (a ≡ a′) × (z ≡ z′)
-  crossing-one q X a z q′ X′ a′ z′ lX la lz lX′ la′ lz′ e =
-      let i = index-first (B .terminals) ((q * B .nonterminals + X) * B .terminals + a) ((q′ * B .nonterminals + X′) * B .terminals + a′) z z′ lz lz′ e in
-      let j = index-first (B .terminals) (q * B .nonterminals + X) (q′ * B .nonterminals + X′) a a′ la la′ i in (
-        index-first (B .nonterminals) q q′ X X′ lX lX′ j,
-        index-second (B .nonterminals) q q′ X X′ lX lX′ j,
-        index-second (B .terminals) (q * B .nonterminals + X) (q′ * B .nonterminals + X′) a a′ la la′ i,
-        index-second (B .terminals) ((q * B .nonterminals + X) * B .terminals + a) ((q′ * B .nonterminals + X′) * B .terminals + a′) z z′ lz lz′ e,
-      )
-
-  pub pair-one : (s z s′ z′ : ℕ) → z < B .terminals → z′ < B .terminals → pairAt B s z ≡ pairAt B s′ z′ → (s ≡ s′) × (z ≡ z′)
-  pair-one s z s′ z′ lz lz′ e = (index-first (B .terminals) s s′ z z′ lz lz′ e, index-second (B .terminals) s s′ z z′ lz lz′ e)
 
 module _ {B : Tables} where
   pub at-crossing-below : {P : ℕ → ℕ → ℕ → ℕ → Type 0} {i : ℕ} → AtCrossing B P i → i < crossingCount B

@@ -14,6 +14,7 @@ pub mod ChecksLaws
 pub mod VerdictLaws
 pub mod FaultLaws
 pub mod CheckingLaws
+pub mod AlikeLaws
 pub mod WrongLaws
 pub mod Written
 pub mod WrittenLaws

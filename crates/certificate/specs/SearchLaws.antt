@@ -33,16 +33,6 @@ lowest-join {P} {Q} {R} {top} {i} {j} f g h p q = record {
     go (yes l) = let e : min i j ≡ i = omega arith in rw e (⊎-elim inl (λ x. inr (f i x)) (p .attained))
     go (no l) = let e : min i j ≡ j = omega arith in rw e (⊎-elim inl (λ x. inr (g j x)) (q .attained))
 
--- at most one index is the lowest, where none is beyond the top
-pub lowest-one : {P : ℕ → Type 0} {top i j : ℕ} → ((k : ℕ) → P k → k < top) → Lowest P top i → Lowest P top j → i ≡ j
-lowest-one {P} {top} {i} {j} f p q = go (p .attained) (q .attained)
-  where
-    go : (i ≡ top) ⊎ P i → (j ≡ top) ⊎ P j → i ≡ j
-    go (inl e) (inl g) = omega arith
-    go (inl e) (inr y) = absurd (omega (arith, f j y, p .below j y))
-    go (inr x) (inl g) = absurd (omega (arith, f i x, q .below i x))
-    go (inr x) (inr y) = omega (arith, p .below j y, q .below i x)
-
 -- the least of several
 pub least-below : {P : ℕ → ℕ → Type 0} {f : ℕ → ℕ} (top n : ℕ) → ((j : ℕ) → j < n → Lowest (P j) top (f j)) → Lowest (Among n P) top (leastBelow top n f)
 least-below top zero g = lowest-none (λ i (j, h, x). omega arith)

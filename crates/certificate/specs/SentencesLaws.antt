@@ -2,7 +2,7 @@
 use mathlib.Core.Bool.{cond}
 use mathlib.Core.List.{List, [], _∷_}
 use mathlib.Core.Path.{_≡_, refl, sym, _∙_, ap}
-use Prim.Native.Nat.{ℕ, zero, suc, _+_, _≤_, _<_}
+use Prim.Native.Nat.{ℕ, suc, _+_, _≤_, _<_}
 use native.Mathlib.Decide.{decLt}
 use native.Mathlib.Numerals.{add-one}
 use native.Mathlib.Omega.{arith}
@@ -110,23 +110,10 @@ module _ (t : ℕ) (bytes : List ℕ) where
       let others : f .rest ≡ drop (suc k) ws = cc (f .split) in
       record { next = f .next; found = rw first at (f .found); onward = rw others at (f .onward) }
 
-  pub sentences-turn : (claims : List ℕ) (at : ℕ) (ws : List (List ℕ)) (end : ℕ) → sentencesAt t bytes claims at ≡ spelled ws end → (k : ℕ) → k < length claims
-      → (start : ℕ) × Turn t bytes claims k start ws end
-  sentences-turn claims at ws end e zero h = (at, turn-at claims 0 at ws end (sentences-count claims at ws end e) h e)
-  sentences-turn claims at ws end e (suc k) h =
-      let (start, r) = sentences-turn claims at ws end e k (omega arith) in
-      (r .next, turn-at claims (suc k) (r .next) ws end (sentences-count claims at ws end e) h (r .onward))
-
   -- the sentence of a pair that has one
   pub turn-sentence : {claims : List ℕ} {k at : ℕ} {ws : List (List ℕ)} {end : ℕ} → t ≤ 128 → getD claims k 0 ≤ plain .limit → (r : Turn t bytes claims k at ws end)
       → Sentence t bytes at (getD ws k []) (r .next)
   turn-sentence {claims} {k} {at} {ws} few l r = sentence-read t bytes at (getD ws k []) (r .next) few (sym (claimed-some t bytes (getD claims k 0) at l) ∙ r .found)
-
-  pub sentence-of : (claims : List ℕ) (at : ℕ) (ws : List (List ℕ)) (end : ℕ) → t ≤ 128 → sentencesAt t bytes claims at ≡ spelled ws end → (k : ℕ) → k < length claims
-      → getD claims k 0 ≤ plain .limit → (start next : ℕ) × Sentence t bytes start (getD ws k []) next
-  sentence-of claims at ws end few e k h l =
-      let (start, r) = sentences-turn claims at ws end e k h in
-      (start, r .next, turn-sentence few l r)
 
   -- those that were admitted are all that the bytes hold
   pub sentences-whole : (claims : List ℕ) (ws : List (List ℕ)) (end : ℕ) → sentencesIn t bytes claims ≡ spelled ws end
