@@ -2,7 +2,7 @@
 use Rattle.number.specs.Words.{List, _≢_, ℕ, _≤_, _<_}
 use Rattle.book.specs.Tables.{Tables}
 use Rattle.machine.specs.Machine.{Reaches}
-use Rattle.walk.specs.{Scale.Scale, Cost.cost, Order.Better}
+use Rattle.walk.specs.{Scale.Scale, Cost.cost, Order.Better, Breaks.Breaks}
 
 -- 'For one pair the finder answers unreached, long or else a sentence'
 pub data Outcome : Type 0 where
@@ -18,3 +18,8 @@ Best σ rank P (Sentence w) = P w × (cost σ w ≤ σ .limit) × ((v : List ℕ
 
 abbrev pub Answer : Scale → (ℕ → ℕ) → Tables → ℕ → ℕ → Outcome → Type 0
 Answer σ rank B s z = Best σ rank (λ w. Reaches B w z s)
+
+-- for a pair with a reduce action, by request 5: 'the first and shortest such sentence, or `long` if all are over 1,000 symbols', of those with which
+-- the reduction breaks there; Unreached is none
+abbrev pub AnswerBreak : Scale → (ℕ → ℕ) → Tables → ℕ → ℕ → Outcome → Type 0
+AnswerBreak σ rank B s z = Best σ rank (λ w. Breaks B w z s)

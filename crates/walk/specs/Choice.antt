@@ -2,12 +2,13 @@
 use mathlib.Core.List.{List, [], _∷_, _++_}
 use mathlib.Core.Logic.{_⊎_, _↔_}
 use mathlib.Core.Path.{_≡_}
-use Prim.Native.Nat.{ℕ, _+_, _≤_}
+use Prim.Native.Nat.{ℕ, _+_, _≤_, _<_}
 use Rattle.book.specs.Tables.{Tables}
 use Rattle.machine.specs.Machine.{Steps}
 use Rattle.walk.specs.Scale.{Scale}
 use Rattle.walk.specs.Cost.{cost}
 use Rattle.walk.specs.Order.{Earlier}
+use Rattle.walk.specs.Claims.{Claims, Completes}
 use Rattle.walk.specs.Walk.{Gets, Lands}
 use Rattle.walk.specs.ShiftLaws.{Ready}
 
@@ -49,3 +50,8 @@ Brings B z Goal st w = (s : ℕ) × (below : List ℕ) × Goal s below × Steps 
 -- .. as `Lands` has it, where a is the first terminal of w z
 abbrev pub LandsIn : Tables → ℕ → (ℕ → List ℕ → Type 0) → List ℕ → ℕ → List ℕ → Type 0
 LandsIn B z Goal st a w = (s : ℕ) × (below : List ℕ) × Goal s below × Lands B s z below st a w
+
+-- the costs to go E tell, from every stack, with which symbols a word within a bound comes to the goal
+pub record Guides (σ : Scale) (B : Tables) (claim : Claims) (z : ℕ) (Goal : ℕ → List ℕ → Type 0) (E : List ℕ → ℕ → ℕ → ℕ) : Type 0 where
+  pub tells : {q x r : ℕ} {st : List ℕ} → q < B .states → x < B .terminals → r ≤ σ .limit
+      → ((v : ℕ) × Completes σ B claim E (q ∷ st) x v × (v ≤ r)) ↔ WithinOf σ (LandsIn B z Goal (q ∷ st)) x r

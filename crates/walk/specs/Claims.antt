@@ -25,6 +25,10 @@ ClaimedGets σ B claim s z = ClaimedDescends σ B claim (λ q st a v n. Claimed 
 abbrev pub ClaimedGetsTo : Scale → Tables → Claims → (ℕ → ℕ → Type 0) → List ℕ → ℕ → ℕ → Type 0
 ClaimedGetsTo σ B claim Goal = ClaimedDescends σ B claim (λ q st a v n. (s z : ℕ) × Goal s z × Claimed σ B claim q a v z n s)
 
+-- .. to what E has as the cost to go, of what is left of the stack, the state on top and the first terminal
+abbrev pub Completes : Scale → Tables → Claims → (List ℕ → ℕ → ℕ → ℕ) → List ℕ → ℕ → ℕ → Type 0
+Completes σ B claim E = ClaimedDescends σ B claim (λ q st a v n. v ≡ E st q a)
+
 -- no claim is more than what the claims make of a production for it
 pub record Closed (σ : Scale) (B : Tables) (claim : Claims) : Type 0 where
   pub bound : {q a v z p q₂ g : ℕ} → Claimed σ B claim q a v z (B .len p) q₂ → B .act q₂ z ≡ Reduce p → B .goto q (B .lhs p) ≡ suc g

@@ -13,6 +13,7 @@ pub mod Layers
 pub mod LayersLaws
 pub mod Order
 pub mod OrderLaws
+pub mod Breaks
 pub mod Answer
 pub mod AnswerLaws
 pub mod Shortest
@@ -20,6 +21,8 @@ pub mod ShortestLaws
 pub mod Cheapest
 pub mod CheapestLaws
 pub mod ShiftLaws
+pub mod Goal
+pub mod Ends
 pub mod Choice
 pub mod ChoiceLaws
 pub mod Stars

@@ -1,0 +1,1 @@
+// Reductions that break: definitions and laws alone.
