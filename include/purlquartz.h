@@ -21,9 +21,10 @@
  * the count is 0, and must be good for the count. Slices that are written to (not const) must
  * overlap no other. Nothing is allocated, and no pointer is kept after a call.
  *
- * Call stack. purlquartz_find uses less than 420,000 bytes of it; purlquartz_map, purlquartz_sets,
- * purlquartz_judge and purlquartz_check_certificate less than 60,000; purlquartz_run less than
- * 25,000; every other call less than 1,000. These are rounded up from what was measured.
+ * Call stack. purlquartz_find and purlquartz_find_break use less than 700,000 bytes of it;
+ * purlquartz_judge less than 80,000; purlquartz_map, purlquartz_sets and
+ * purlquartz_check_certificate less than 60,000; purlquartz_run less than 25,000; every other call
+ * less than 1,000. These are rounded up from what was measured.
  *
  * Answers. Every call fills answer[0] to answer[7]: answer[0] is the kind, the others its values,
  * unused ones 0. The answer must not be null, and must overlap no slice. Kind 0 is a refusal,
@@ -91,6 +92,11 @@ extern "C" {
 #define PURLQUARTZ_FOUND_UNREACHED 1u
 #define PURLQUARTZ_FOUND_LONG 2u
 #define PURLQUARTZ_FOUND_SENTENCE 3u
+
+/* answer[0] of purlquartz_find_break. */
+#define PURLQUARTZ_BREAK_NONE 1u
+#define PURLQUARTZ_BREAK_LONG 2u
+#define PURLQUARTZ_BREAK_SENTENCE 3u
 
 /* answer[0] of purlquartz_entry and purlquartz_next_entry. */
 #define PURLQUARTZ_ENTRY_FOUND 1u
@@ -203,6 +209,23 @@ void purlquartz_find(const uint16_t *cells, size_t cell_count,
                      uint64_t answer[8]);
 
 /*
+ * Finds the shortest sentence that brings the machine to the state with the lookahead, with a stack
+ * on which the reduction to be done there breaks, and of several the earliest in order. A reduction
+ * of length n breaks if n or fewer states are stacked, or if the state that is on top once n are
+ * taken off has no goto under its left side. Unlike in a run, the stack and the reductions before
+ * are unlimited.
+ * The sentence, the other bytes of the buffer and the work cells are left as by purlquartz_find.
+ * Kinds: 1 none, no sequence does so, however long, or the action of the pair is not reduce; 2
+ * long, some sequence does, but none of at most 1,000 symbols; 3 sentence, answer[1] is its length.
+ * Refusals: those of purlquartz_find.
+ */
+void purlquartz_find_break(const uint16_t *cells, size_t cell_count,
+                           uint16_t state, uint16_t lookahead,
+                           uint16_t *work, size_t work_count,
+                           uint8_t *buffer, size_t buffer_count,
+                           uint64_t answer[8]);
+
+/*
  * Writes the whole map to the first S * T lent cells, by state, then terminal: the least length of
  * a sentence that reaches the pair, 1,001 for long, 1,002 for unreached. The cells after them keep
  * their values; the work cells are left as by purlquartz_find.
@@ -266,11 +289,13 @@ void purlquartz_next_entry(const uint8_t *list, size_t list_count,
                            uint64_t answer[8]);
 
 /*
- * Judges a list. An entry is wrong if its run does not end as error with the whole sentence in,
- * and repeats if it ends in the state of an earlier one; the first such entry is told. Without one
- * the list is complete if every state with a failing pair has its entry. A failing pair is a
- * reached one, long or not, whose action is error. The work cells are left as by purlquartz_find,
- * and the first 1,024 stack cells are zero afterwards.
+ * Judges a list. An entry is wrong if its run ends neither as error nor as broken with the whole
+ * sentence in, and repeats if it ends in the state of an earlier one; the first such entry is told.
+ * Without one the list is complete if every state with a failing pair has its entry. A failing pair
+ * is one whose action is error and that some sequence reaches, however long, or one whose action is
+ * reduce and where some sequence, however long, makes that break: purlquartz_find_break then does
+ * not answer none. The work cells are left as by purlquartz_find, and the first 1,024 stack cells
+ * are zero afterwards.
  * Kinds: 1 complete; 2 uncovered, answer[1] is the lowest state with a failing pair and no entry;
  * 3 repeat, answer[1] is the entry; 4 wrong, answer[1] is the entry, answer[2] the kind of its
  * run's ending as in purlquartz_run, answer[3] to answer[5] its state, symbol and taken.

@@ -107,6 +107,18 @@ pub enum Found {
     Sentence(usize),
 }
 
+/// What [`find_break`](crate::find_break()) says of the reduction of one pair.
+#[derive(Clone, Copy, Debug, PartialEq, Eq)]
+pub enum Break {
+    /// No sequence, however long, brings the machine to the pair with a stack on which the
+    /// reduction breaks. So it is too if the action of the pair is not reduce.
+    None,
+    /// Some sequence does, but none of at most 1,000 symbols.
+    Long,
+    /// The first so many bytes of the buffer are the shortest and earliest sentence that does.
+    Sentence(usize),
+}
+
 /// The rest of a list: the offset of its next entry, and how many entries are left.
 #[derive(Clone, Copy, Debug, PartialEq, Eq)]
 pub struct Rest {
@@ -131,6 +143,9 @@ impl Entry {
 }
 
 /// What the judgement says of a list. Entries are counted from 0.
+///
+/// A failing pair is one whose action is error and that some sequence reaches, or one whose action
+/// is reduce and where some sequence breaks it ([`Break`]).
 #[derive(Clone, Copy, Debug, PartialEq, Eq)]
 pub enum Judgement {
     /// Every state with a failing pair has its entry.
@@ -139,7 +154,7 @@ pub enum Judgement {
     Uncovered { state: u16 },
     /// The entry fails in the state of an earlier one.
     Repeat { entry: usize },
-    /// The entry's run does not end as error with the whole sentence in.
+    /// The entry's run ends neither as error nor as broken with the whole sentence in.
     Wrong { entry: usize, ending: Ending },
 }
 

@@ -56,6 +56,17 @@ extern "C" {
         buffer_count: usize,
         answer: *mut u64,
     );
+    fn purlquartz_find_break(
+        cells: *const u16,
+        cell_count: usize,
+        state: u16,
+        lookahead: u16,
+        work: *mut u16,
+        work_count: usize,
+        buffer: *mut u8,
+        buffer_count: usize,
+        answer: *mut u64,
+    );
     fn purlquartz_map(
         cells: *const u16,
         cell_count: usize,
@@ -208,9 +219,33 @@ pub(crate) fn find(
     work: &mut [u16],
     buffer: &mut [u8],
 ) -> Answer {
+    found(purlquartz_find, cells, (state, lookahead), work, buffer)
+}
+
+pub(crate) fn find_break(
+    cells: &[u16],
+    state: u16,
+    lookahead: u16,
+    work: &mut [u16],
+    buffer: &mut [u8],
+) -> Answer {
+    let pair = (state, lookahead);
+    found(purlquartz_find_break, cells, pair, work, buffer)
+}
+
+type Finder =
+    unsafe extern "C" fn(*const u16, usize, u16, u16, *mut u16, usize, *mut u8, usize, *mut u64);
+
+fn found(
+    finder: Finder,
+    cells: &[u16],
+    (state, lookahead): (u16, u16),
+    work: &mut [u16],
+    buffer: &mut [u8],
+) -> Answer {
     let mut answer = [0; 8];
     unsafe {
-        purlquartz_find(
+        finder(
             cells.as_ptr(),
             cells.len(),
             state,

@@ -9,6 +9,11 @@
 //! so that a refused call changes nothing. Refusals come in the order: the book's, those of the
 //! list, sentence or certificate, then 17, 10, 11, 13, 12.
 //!
+//! A pair of a state and a lookahead *fails* if its action is error and some sequence of terminals
+//! reaches it, or if its action is reduce and with some sequence that reduction cannot be done.
+//! [`find`] and [`find_break`] answer the shortest such sentence, and [`judge`] whether a list has
+//! one for every state that has a failing pair.
+//!
 //! A *certificate* shows that a map is a book's map: [`check_certificate`] looks whether it does,
 //! and [`certificate::make`] makes one.
 #![deny(unsafe_code)]
@@ -114,6 +119,31 @@ pub fn find(
     })
 }
 
+/// Finds the shortest sentence that brings the machine to the state with the lookahead, with a
+/// stack on which the reduction to be done there breaks, and of several the earliest in order. A
+/// reduction of length n breaks if n or fewer states are stacked, or if the state that is on top
+/// once n are taken off has no goto under its left side. Unlike in a [`run`], the stack and the
+/// reductions before are unlimited. Of a pair whose action is not reduce the answer is
+/// [`Break::None`].
+///
+/// The sentence, the other bytes of the buffer and the work cells are left as by [`find`], and the
+/// refusals are those of [`find`].
+pub fn find_break(
+    cells: &[u16],
+    state: u16,
+    lookahead: u16,
+    work: &mut [u16],
+    buffer: &mut [u8],
+) -> Result<Break, Refusal> {
+    let answer = accepted(foreign::find_break(cells, state, lookahead, work, buffer))?;
+    Ok(match answer[0] {
+        1 => Break::None,
+        2 => Break::Long,
+        3 => Break::Sentence(answer[1] as usize),
+        kind => unknown(kind),
+    })
+}
+
 /// Writes the whole map to the first S × T lent cells, by state, then terminal, and answers that
 /// count: the least length of a sentence that reaches the pair, [`LONG`] or [`UNREACHED`]. The
 /// cells after them keep their values; the work cells are zero as after [`find`].
@@ -183,7 +213,8 @@ pub fn entry(cells: &[u16], list: &[u8], index: usize) -> Result<Option<Entry>, 
 }
 
 /// Judges a list: the first entry that is wrong or repeats a state, or else whether every state
-/// with a failing pair is covered. The work cells are zero as after [`find`], and so are the first
+/// with a failing pair is covered. An entry is right if its run ends as error or as broken with the
+/// whole sentence in. The work cells are zero as after [`find`], and so are the first
 /// [`STACK_CELLS`] stack cells.
 ///
 /// Refusals: those of [`check_list`]; 13 if too few work or stack cells are lent.

@@ -13,16 +13,19 @@ mod independent;
 mod lalr;
 mod random;
 
-use both::compare::{self, Outcome};
+use both::compare::{self, Outcome, Outcomes};
 use both::lent::Lent;
 use both::{Calls, INDEPENDENT, LIBRARY};
-use independent::book::Book;
+use independent::book::{Action, Book};
+use independent::machine::run;
 use independent::numbers::encoded;
 use purlquartz::*;
-use random::books::{large_taste, medium_book, small_book, tied_book, wild};
+use random::books::{
+    breakable, breaking_book, large_taste, medium_book, small_book, tied_book, wild,
+};
 use random::bytes::{damaged, damaged_cells};
 use random::grammars::long_book;
-use random::lists::{damaged_list, encode_list, lines, sentence, taken_sentence};
+use random::lists::{damaged_list, encode_list, lines, sentence, taken_sentence, Line};
 use random::ranks::{in_every_order, ranked, unranked};
 use random::Random;
 use std::collections::BTreeMap;
@@ -39,6 +42,15 @@ impl Tally {
         match outcome {
             Ok(word) => *self.seen.entry((call, word)).or_default() += 1,
             Err(difference) => panic!("{difference}\nbook {book:?}"),
+        }
+    }
+
+    fn note_each(&mut self, call: &'static str, outcomes: Outcomes, book: &[u16]) {
+        match outcomes {
+            Ok(words) => words
+                .into_iter()
+                .for_each(|word| self.note(call, Ok(word), book)),
+            Err(difference) => self.note(call, Err(difference), book),
         }
     }
 
@@ -203,7 +215,19 @@ fn runs() {
     tally.expect("run", "1 3 4 5 16 14 15 6 7 8 11 13");
 }
 
-/// Finder, map and sets of one book, with lent memory that is sometimes too short.
+/// As a rule a pair whose action is reduce, if there is any.
+fn some_reduction(random: &mut Random, book: &Book) -> Option<(u16, u16)> {
+    let terminals = book.terminals();
+    let pairs = (0..book.actions.len()).filter(|&at| matches!(book.actions[at], Action::Reduce(_)));
+    let pairs: Vec<usize> = pairs.collect();
+    if pairs.is_empty() || random.percent(30) {
+        return None;
+    }
+    let at = random.pick(&pairs);
+    Some(((at / terminals) as u16, (at % terminals) as u16))
+}
+
+/// Both finders, map and sets of one book, with lent memory that is sometimes too short.
 fn compare_finder(
     random: &mut Random,
     tally: &mut Tally,
@@ -220,6 +244,9 @@ fn compare_finder(
         let pair = (state, lookahead);
         let outcome = compare::find(&LIBRARY, cells, pair, &work, &buffer);
         tally.note("find", outcome, cells);
+        let pair = some_reduction(random, book).unwrap_or(pair);
+        let outcome = compare::find_break(&LIBRARY, cells, pair, &work, &buffer);
+        tally.note("find_break", outcome, cells);
     }
     let work = lend(random, book.sizes.work_cells());
     let map = lend(random, book.sizes.map_cells());
@@ -233,8 +260,10 @@ fn compare_finder(
 fn compare_each_pair(random: &mut Random, tally: &mut Tally, book: &Book) {
     let work = Lent::random(random, book.sizes.work_cells() + 5);
     let buffer = Lent::random(random, SENTENCE_BYTES + 3);
-    let outcome = compare::find_each(&LIBRARY, book, &work, &buffer);
-    tally.note("find", outcome, &book.cells());
+    let outcomes = compare::find_each(&LIBRARY, book, &work, &buffer);
+    tally.note_each("find", outcomes, &book.cells());
+    let outcomes = compare::find_each_break(&LIBRARY, book, &work, &buffer);
+    tally.note_each("find_break", outcomes, &book.cells());
 }
 
 #[test]
@@ -247,10 +276,8 @@ fn finder_of_small_books() {
         compare_finder(&mut random, &mut tally, &book, &cells, 3);
         compare_each_pair(&mut random, &mut tally, &book);
     }
-    tally.expect(
-        "find",
-        "Sentence Unreached each 1 3 4 5 16 14 15 6 10 11 12 13",
-    );
+    tally.expect("find", "Sentence Unreached 1 3 4 5 16 14 15 6 10 11 12 13");
+    tally.expect("find_break", "Sentence None 1 3 4 5 16 14 15 6 10 11 12 13");
     tally.expect("map", " 1 3 4 5 16 14 15 6 12 13");
     tally.expect("sets", " 1 3 4 5 16 14 15 6 12 13");
 }
@@ -263,7 +290,20 @@ fn finder_of_books_with_many_ties() {
         let book = tied_book(&mut random);
         compare_each_pair(&mut random, &mut tally, &book);
     }
-    tally.expect("find", "each");
+    tally.expect("find", "Sentence Unreached");
+    tally.expect("find_break", "Sentence None");
+}
+
+#[test]
+fn finder_of_books_that_break() {
+    let mut random = Random::new(24);
+    let mut tally = Tally::default();
+    for _ in 0..5_000 {
+        let book = breaking_book(&mut random);
+        compare_each_pair(&mut random, &mut tally, &book);
+        compare_finder(&mut random, &mut tally, &book, &book.cells(), 2);
+    }
+    tally.expect("find_break", "Sentence None 10 11 12 13");
 }
 
 #[test]
@@ -275,6 +315,7 @@ fn finder_of_medium_books() {
         compare_finder(&mut random, &mut tally, &book, &book.cells(), 4);
     }
     tally.expect("find", "Sentence Unreached 10 11 12 13");
+    tally.expect("find_break", "Sentence None 10 11 12 13");
     tally.expect("map", " 12 13");
     tally.expect("sets", " 12 13");
 }
@@ -291,6 +332,25 @@ fn books_of_long_sentences() {
         compare_list(&mut random, &mut tally, &book, &cells, &list);
     }
     tally.expect("find", "Sentence Long Unreached");
+    tally.expect("judge", "Complete Uncovered Repeat Wrong");
+}
+
+/// The same books with reductions that break: many only after some hundred symbols, or over 1,000.
+#[test]
+fn breaks_after_long_sentences() {
+    let mut random = Random::new(25);
+    let mut tally = Tally::default();
+    for _ in 0..400 {
+        let book = long_book(&mut random);
+        let changes = random.between(1, 3);
+        let book = breakable(&mut random, &book, changes);
+        compare_each_pair(&mut random, &mut tally, &book);
+        let cells = book.cells();
+        compare_finder(&mut random, &mut tally, &book, &cells, 8);
+        let list = encode_list(&lines(&mut random, &book));
+        compare_list(&mut random, &mut tally, &book, &cells, &list);
+    }
+    tally.expect("find_break", "Sentence Long None");
     tally.expect("judge", "Complete Uncovered Repeat Wrong");
 }
 
@@ -313,6 +373,26 @@ fn finder_of_shipped_books() {
         compare_finder(&mut random, &mut tally, &book, &book.cells(), 60);
     }
     tally.expect("find", "Sentence Unreached");
+    tally.expect("find_break", "None");
+}
+
+/// Some gotos are gone, and some productions are longer.
+#[test]
+fn breaks_of_shipped_books() {
+    let mut random = Random::new(26);
+    let mut tally = Tally::default();
+    for name in ["bracket", "double_ranked", "arithmetic", "pattern", "json"] {
+        let shipped = shipped(name);
+        for _ in 0..20 {
+            let changes = random.between(1, 6);
+            let book = breakable(&mut random, &shipped, changes);
+            compare_each_pair(&mut random, &mut tally, &book);
+            compare_finder(&mut random, &mut tally, &book, &book.cells(), 5);
+        }
+    }
+    let program = breakable(&mut random, &shipped("program"), 20);
+    compare_finder(&mut random, &mut tally, &program, &program.cells(), 60);
+    tally.expect("find_break", "Sentence None");
 }
 
 /// The book in form 2 with the highest terminal first.
@@ -320,12 +400,20 @@ fn turned_round(book: &Book) -> Book {
     ranked(book, (0..book.sizes.terminals).rev().collect())
 }
 
-/// The two books of the specification in form 1, and in form 2 with their ranks in every order.
+/// The two books of the specification, and four made of them so that reductions may break, in form
+/// 1, and in form 2 with their ranks in every order.
 #[test]
 fn every_order_of_ranks() {
     let mut random = Random::new(23);
     let mut tally = Tally::default();
-    for book in ["bracket", "double"].map(shipped) {
+    let mut books = Vec::from(["bracket", "double"].map(shipped));
+    for changes in [1, 2] {
+        let broken = books[..2]
+            .iter()
+            .map(|book| breakable(&mut random, book, changes));
+        books.extend(broken.collect::<Vec<_>>());
+    }
+    for book in books {
         for book in [in_every_order(&book), vec![book]].concat() {
             let cells = book.cells();
             compare_each_pair(&mut random, &mut tally, &book);
@@ -335,7 +423,8 @@ fn every_order_of_ranks() {
             compare_list(&mut random, &mut tally, &book, &cells, &list);
         }
     }
-    tally.expect("find", "Sentence Unreached each");
+    tally.expect("find", "Sentence Unreached");
+    tally.expect("find_break", "Sentence None");
     tally.expect("to_form_1", "17");
 }
 
@@ -403,6 +492,36 @@ fn lists() {
     tally.expect("next_entry", "Some None");
     tally.expect("judge", "Complete Uncovered Repeat Wrong");
     tally.expect("judge", "1 2 3 4 5 16 14 15 6 7 8 9 11 13");
+}
+
+/// Lists for books where reductions break: many entries end as broken, and many states have no
+/// other failing pair.
+#[test]
+fn lists_of_books_that_break() {
+    let mut random = Random::new(27);
+    let mut tally = Tally::default();
+    let mut broken = 0;
+    for round in 0..8_000 {
+        let book = match round % 2 {
+            0 => breaking_book(&mut random),
+            _ => {
+                let book = small_book(&mut random);
+                breakable(&mut random, &book, 3)
+            }
+        };
+        let lines = lines(&mut random, &book);
+        broken += usize::from(lines.iter().any(|line| ends_broken(&book, line)));
+        let list = encode_list(&lines);
+        compare_list(&mut random, &mut tally, &book, &book.cells(), &list);
+    }
+    assert!(broken > 3_000);
+    tally.expect("judge", "Complete Uncovered Repeat Wrong");
+}
+
+/// Whether the run of an entry ends as broken with the whole sentence in.
+fn ends_broken(book: &Book, (sentence, lookahead): &Line) -> bool {
+    let (ending, _) = run(book, sentence, *lookahead);
+    matches!(ending, Ending::Broken(stop) if usize::from(stop.taken) == sentence.len())
 }
 
 /// The comparison must notice a wrong map, a wrong place, and writes where there should be none.
@@ -484,6 +603,76 @@ mod faults {
         let each = |book: &Book| compare::find_each(&subject, book, &work, &buffer);
         assert!(each(&shipped("double")).is_ok());
         assert!(each(&shipped("double_ranked")).is_err());
+    }
+
+    /// No reduction breaks.
+    fn never(
+        cells: &[u16],
+        state: u16,
+        lookahead: u16,
+        work: &mut [u16],
+        buffer: &mut [u8],
+    ) -> Result<Break, Refusal> {
+        let before = buffer.to_vec();
+        (INDEPENDENT.find_break)(cells, state, lookahead, work, buffer)?;
+        buffer.copy_from_slice(&before);
+        Ok(Break::None)
+    }
+
+    /// Whatever reaches a reduction breaks it.
+    fn whenever_reached(
+        cells: &[u16],
+        state: u16,
+        lookahead: u16,
+        work: &mut [u16],
+        buffer: &mut [u8],
+    ) -> Result<Break, Refusal> {
+        let before = buffer.to_vec();
+        let answer = (INDEPENDENT.find_break)(cells, state, lookahead, work, buffer)?;
+        if answer == Break::None {
+            return Ok(answer);
+        }
+        buffer.copy_from_slice(&before);
+        match (INDEPENDENT.find)(cells, state, lookahead, work, buffer)? {
+            Found::Sentence(length) => Ok(Break::Sentence(length)),
+            Found::Unreached | Found::Long => Ok(answer),
+        }
+    }
+
+    /// A byte after the sentence is written.
+    fn byte_after_sentence(
+        cells: &[u16],
+        state: u16,
+        lookahead: u16,
+        work: &mut [u16],
+        buffer: &mut [u8],
+    ) -> Result<Break, Refusal> {
+        let answer = (INDEPENDENT.find_break)(cells, state, lookahead, work, buffer)?;
+        if let Break::Sentence(length) = answer {
+            buffer[length] = 0;
+        }
+        Ok(answer)
+    }
+
+    /// Bracket, and the same without a goto, in which only `2 1` breaks.
+    #[test]
+    fn a_wrong_break_is_noticed() {
+        let book = shipped("bracket");
+        let mut broken = book.clone();
+        broken.gotos[2] = None;
+        let (work, buffer) = (Lent::holding(&[7; 900]), Lent::holding(&[7; 1_000]));
+        let each = |calls: &Calls, book| compare::find_each_break(calls, book, &work, &buffer);
+        assert!(each(&INDEPENDENT, &broken).is_ok());
+        for find_break in [never, whenever_reached, byte_after_sentence] {
+            let subject = Calls {
+                find_break,
+                ..INDEPENDENT
+            };
+            assert!(each(&subject, &book).is_ok());
+            assert!(each(&subject, &broken).is_err());
+            let one = compare::find_break(&subject, &broken.cells(), (1, 3), &work, &buffer);
+            assert!(one.is_err());
+        }
     }
 
     fn cell_after_book(cells: &[u16], lent: &mut [u16]) -> Result<usize, Refusal> {

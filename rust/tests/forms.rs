@@ -96,24 +96,51 @@ fn answers(calls: &Calls, cells: &[u16], questions: &Questions) -> Answers {
     }
 }
 
-/// The finder's answers for all pairs, by state, then terminal, each with its sentence.
-fn find_all(calls: &Calls, cells: &[u16]) -> Vec<(Found, Vec<u8>)> {
+/// What the finders say of a pair and of its reduction, and both sentences.
+#[derive(Debug, PartialEq)]
+struct PairAnswers {
+    found: Found,
+    broken: Break,
+    sentences: [Vec<u8>; 2],
+}
+
+/// The answers for all pairs, by state, then terminal.
+fn find_all(calls: &Calls, cells: &[u16]) -> Vec<PairAnswers> {
     let sizes = (calls.check)(cells).expect("a good book");
-    let mut work = vec![0; sizes.work_cells()];
     let mut answers = Vec::new();
     for state in 0..sizes.states {
         for lookahead in 0..sizes.terminals {
-            let mut sentence = vec![0; SENTENCE_BYTES];
-            let found = (calls.find)(cells, state, lookahead, &mut work, &mut sentence);
-            let found = found.expect("an answer");
-            sentence.truncate(match found {
-                Found::Sentence(length) => length,
-                Found::Unreached | Found::Long => 0,
-            });
-            answers.push((found, sentence));
+            answers.push(find_pair(calls, cells, sizes, (state, lookahead)));
         }
     }
     answers
+}
+
+fn find_pair(
+    calls: &Calls,
+    cells: &[u16],
+    sizes: Sizes,
+    (state, lookahead): (u16, u16),
+) -> PairAnswers {
+    let mut work = vec![0; sizes.work_cells()];
+    let [mut reaching, mut breaking] = [(); 2].map(|()| vec![0; SENTENCE_BYTES]);
+    let found = (calls.find)(cells, state, lookahead, &mut work, &mut reaching);
+    let found = found.expect("an answer");
+    reaching.truncate(match found {
+        Found::Sentence(length) => length,
+        Found::Unreached | Found::Long => 0,
+    });
+    let broken = (calls.find_break)(cells, state, lookahead, &mut work, &mut breaking);
+    let broken = broken.expect("an answer");
+    breaking.truncate(match broken {
+        Break::Sentence(length) => length,
+        Break::None | Break::Long => 0,
+    });
+    PairAnswers {
+        found,
+        broken,
+        sentences: [reaching, breaking],
+    }
 }
 
 fn to_form_2_and_back(calls: &Calls) {
@@ -146,10 +173,10 @@ fn both_forms_answer_alike(calls: &Calls) {
 }
 
 /// Other ranks leave all answers but the sentences, which stay as long. Of the two sentences of a
-/// pair each is the earlier one by its own ranks.
+/// pair, or of its reduction, each is the earlier one by its own ranks.
 fn ranks_only_choose_the_sentence(calls: &Calls) {
     let mut random = Random::new(33);
-    let mut others = 0;
+    let mut others = [0; 2];
     for _ in 0..BOOKS {
         let by_rank = tied_book(&mut random);
         let by_number = unranked(&by_rank);
@@ -158,11 +185,14 @@ fn ranks_only_choose_the_sentence(calls: &Calls) {
         let alike = answers(calls, &one, &questions);
         assert_eq!(answers(calls, &other, &questions), alike, "{by_rank:?}");
         for (one, other) in find_all(calls, &one).iter().zip(find_all(calls, &other)) {
-            assert_eq!(one.0, other.0);
-            assert!(!by_number.earlier(&other.1, &one.1), "{by_rank:?}");
-            assert!(!by_rank.earlier(&one.1, &other.1), "{by_rank:?}");
-            others += usize::from(one.1 != other.1);
+            assert_eq!((one.found, one.broken), (other.found, other.broken));
+            for (kind, one) in one.sentences.iter().enumerate() {
+                let other = &other.sentences[kind];
+                assert!(!by_number.earlier(other, one), "{by_rank:?}");
+                assert!(!by_rank.earlier(one, other), "{by_rank:?}");
+                others[kind] += usize::from(one != other);
+            }
         }
     }
-    assert!(others > 2_000);
+    assert!(others[0] > 2_000 && others[1] > 200, "{others:?}");
 }

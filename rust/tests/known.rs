@@ -11,10 +11,11 @@ mod independent;
 #[allow(dead_code)]
 #[path = "../examples/make_book/lalr.rs"]
 mod lalr;
+mod made;
 mod random;
 
 use both::Calls;
-use grammar::Grammar;
+use made::{after, doubling, shifted, thousand};
 use purlquartz::*;
 
 on_both! {
@@ -374,66 +375,33 @@ fn work_cells(calls: &Calls) {
     assert_eq!(map(&book, 34_816), Ok(256));
 }
 
-fn grammar_cells(text: &str) -> Vec<u16> {
-    let grammar = Grammar::parse(text).expect("a good grammar");
-    let tables = lalr::build(&grammar).expect("within the limits");
-    assert_eq!(tables.conflicts, Vec::<String>::new());
-    tables.cells
-}
-
-/// The state that state 0 leads to under a nonterminal.
-fn first_goto(cells: &[u16], nonterminal: usize) -> u16 {
-    let [terminals, nonterminals, states, productions] = [1, 2, 3, 4].map(|at| cells[at] as usize);
-    assert!(nonterminal < nonterminals);
-    cells[5 + 2 * productions + states * terminals + nonterminal] - 1
-}
-
-fn action(cells: &[u16], state: u16, terminal: usize) -> u16 {
-    let [terminals, productions] = [1, 4].map(|at| cells[at] as usize);
-    cells[5 + 2 * productions + usize::from(state) * terminals + terminal]
-}
-
 fn sentence_of_1000_and_1001(calls: &Calls) {
-    let ten = |name: &str| [name; 10].join(" ");
-    let cells = grammar_cells(&format!(
-        "terminals: x y\nstart -> c y\nc -> {}\nb -> {}\na -> {}\n",
-        ten("b"),
-        ten("a"),
-        ten("x")
-    ));
-    let whole = first_goto(&cells, 1);
+    let book = thousand();
+    let cells = book.cells();
+    let whole = after(&book, &[1]);
+    let longer = shifted(&book, whole, 2) as u16;
+    let whole = whole as u16;
     assert_eq!(find(calls, &cells, whole, 2), Ok(vec![1; 1_000]));
-    let after = action(&cells, whole, 2) / 2 - 1;
-    assert_eq!(find(calls, &cells, after, 0), Err(Found::Long));
+    assert_eq!(find(calls, &cells, longer, 0), Err(Found::Long));
     assert_eq!(find(calls, &cells, whole, 1), Err(Found::Unreached));
 }
 
 fn exponential_length_is_long(calls: &Calls) {
-    let mut text = "terminals: x y\nstart -> a30 y\n".to_string();
-    for level in (1..=30).rev() {
-        text += &format!("a{level} -> a{0} a{0}\n", level - 1);
-    }
-    text += "a0 -> x\n";
-    let cells = grammar_cells(&text);
-    let whole = first_goto(&cells, 1);
+    let book = doubling("a0 -> x\n", 30);
+    let cells = book.cells();
+    let [whole, longer, short] = [1, 21, 22].map(|level| after(&book, &[level]) as u16);
     assert_eq!(find(calls, &cells, whole, 2), Err(Found::Long));
-    let short = first_goto(&cells, 22);
     assert_eq!(find(calls, &cells, short, 1), Ok(vec![1; 512]));
-    let longer = first_goto(&cells, 21);
     assert_eq!(find(calls, &cells, longer, 1), Err(Found::Long));
 }
 
 fn many_empty_reductions(calls: &Calls) {
-    let mut text = "terminals: x\nstart -> a28 x\n".to_string();
-    for level in (1..=28).rev() {
-        text += &format!("a{level} -> a{0} a{0}\n", level - 1);
-    }
-    text += "a0 ->\n";
-    let cells = grammar_cells(&text);
-    let whole = first_goto(&cells, 1);
-    assert_eq!(find(calls, &cells, whole, 1), Ok(vec![]));
-    let after = action(&cells, whole, 1) / 2 - 1;
-    assert_eq!(find(calls, &cells, after, 0), Ok(vec![1]));
-    let ending = (calls.run)(&cells, &[1], 0, &mut [0; STACK_CELLS]);
+    let book = doubling("a0 ->\n", 28);
+    let cells = book.cells();
+    let whole = after(&book, &[1]);
+    let taken = shifted(&book, whole, 2) as u16;
+    assert_eq!(find(calls, &cells, whole as u16, 2), Ok(vec![]));
+    assert_eq!(find(calls, &cells, taken, 0), Ok(vec![2]));
+    let ending = (calls.run)(&cells, &[2], 0, &mut [0; STACK_CELLS]);
     assert!(matches!(ending, Ok(Ending::Spinning(_))));
 }

@@ -10,13 +10,14 @@ mod independent;
 #[allow(dead_code)]
 #[path = "../examples/make_book/lalr.rs"]
 mod lalr;
+mod made;
 mod random;
 mod shipped;
 
 use both::Calls;
-use grammar::Grammar;
-use independent::book::{Action, Book, Production};
+use independent::book::{Action, Book};
 use independent::calls::map_of;
+use made::{after, doubling, grammar_book, growing, hand_book, shifted, thousand};
 use purlquartz::certificate::{make, Certificate};
 use purlquartz::*;
 use random::certificates::Pieces;
@@ -42,13 +43,6 @@ on_both! {
     too_deep
     spinning
     shipped_books
-}
-
-fn grammar_book(text: &str) -> Book {
-    let grammar = Grammar::parse(text).expect("a good grammar");
-    let tables = lalr::build(&grammar).expect("within the limits");
-    assert_eq!(tables.conflicts, Vec::<String>::new());
-    Book::from_cells(&tables.cells).expect("in range")
 }
 
 fn check(calls: &Calls, book: &Book, certificate: &Certificate) -> Result<Verdict, Refusal> {
@@ -416,18 +410,9 @@ fn gotos_that_are_none(calls: &Calls) {
     assert_eq!(verdict(calls, &book, &pieces), Verdict::Accepted);
 }
 
-fn wild_book(sizes: [u16; 4], productions: &[[u16; 2]], actions: &[u16], gotos: &[u16]) -> Book {
-    let [terminals, nonterminals, states, count] = sizes;
-    let mut cells = vec![1, terminals, nonterminals, states, count];
-    cells.extend(productions.concat());
-    cells.extend(actions);
-    cells.extend(gotos);
-    Book::from_cells(&cells).expect("a good book")
-}
-
 /// Without nonterminals there are no crossings.
 fn no_nonterminals(calls: &Calls) {
-    let book = wild_book([2, 0, 2, 0], &[], &[0, 4, 1, 4], &[]);
+    let book = hand_book([2, 0, 2, 0], &[], &[0, 4, 1, 4], &[]);
     let good = Certificate {
         crossings: vec![],
         pairs: vec![0, 0, 1, 1],
@@ -457,7 +442,7 @@ fn no_nonterminals(calls: &Calls) {
 /// With the end mark alone there are no symbols: what is reached is reached by nothing.
 fn no_symbols(calls: &Calls) {
     // After one reduction the machine spins in state 1.
-    let book = wild_book([1, 1, 2, 2], &[[0, 0], [0, 1]], &[3, 5], &[2, 0]);
+    let book = hand_book([1, 1, 2, 2], &[[0, 0], [0, 1]], &[3, 5], &[2, 0]);
     let good = Certificate {
         crossings: vec![0, UNREACHED],
         pairs: vec![0, 0],
@@ -469,7 +454,7 @@ fn no_symbols(calls: &Calls) {
     bad.sentences = vec![0, 1, 1];
     refused(calls, &book, &bad, 7, 2);
     // The stack grows without end, with state 0 on top.
-    let book = wild_book([1, 1, 1, 1], &[[0, 0]], &[3], &[1]);
+    let book = hand_book([1, 1, 1, 1], &[[0, 0]], &[3], &[1]);
     let good = Certificate {
         crossings: vec![0],
         pairs: vec![0],
@@ -493,7 +478,7 @@ fn longest_production(calls: &Calls) {
 
 /// As many claims as there can be, of a book that does nothing.
 fn largest_rows(calls: &Calls) {
-    let book = wild_book([32, 32, 128, 0], &[], &[0; 4_096], &[0; 4_096]);
+    let book = hand_book([32, 32, 128, 0], &[], &[0; 4_096], &[0; 4_096]);
     let (crossings, pairs) = (4_194_304, 4_096);
     let mut good = Certificate {
         crossings: vec![UNREACHED; crossings],
@@ -515,15 +500,6 @@ fn largest_rows(calls: &Calls) {
     refused(calls, &book, &bad, 6, crossings);
 }
 
-/// Each nonterminal is the one below it, twice.
-fn doubling(last: &str, levels: usize) -> Book {
-    let mut text = format!("terminals: x y\nstart -> a{levels} y\n");
-    for level in (1..=levels).rev() {
-        text += &format!("a{level} -> a{0} a{0}\n", level - 1);
-    }
-    grammar_book(&(text + last))
-}
-
 /// A true certificate with long pairs: the first of them is told.
 fn long_pairs(calls: &Calls) {
     let book = doubling("a0 -> x\n", 12);
@@ -541,17 +517,11 @@ fn long_pairs(calls: &Calls) {
 
 /// A way of 1,000 symbols, and one more symbol: sums stop at 1,001, be they claimed or added up.
 fn sums_stop(calls: &Calls) {
-    let ten = |name: &str| [name; 10].join(" ");
-    let [whole, part, piece] = ["b", "a", "x"].map(ten);
-    let book = grammar_book(&format!(
-        "terminals: x y\nstart -> c y\nc -> {whole}\nb -> {part}\na -> {piece}\n"
-    ));
+    let book = thousand();
     let pieces = Pieces::of(&book);
-    let state = book.goto(0, 1).expect("the goto of c");
-    let Action::Shift(after) = book.action(state, 2) else {
-        panic!("y is not shifted");
-    };
-    let (claimed, long) = (pair(&book, state, 2), pair(&book, after.into(), 0));
+    let whole = after(&book, &[1]);
+    let claimed = pair(&book, whole, 2);
+    let long = pair(&book, shifted(&book, whole, 2), 0);
     let with = |changes: &[(usize, u16)]| {
         let mut pieces = pieces.clone();
         for &(index, claim) in changes {
@@ -581,45 +551,6 @@ fn sums_stop(calls: &Calls) {
     assert_eq!(pieces.crossings[start], LONG);
     assert_eq!(with(&[(start, UNREACHED)]), fault(Condition::Roads, start));
     assert_eq!(pieces.crossings[crossing(&book, [0, 1, 1, 2])], 1_000);
-}
-
-/// A book whose stack grows with each symbol by 33 states, and never shrinks: state 0 goes on only
-/// with 1 next, states 1 to 32 go on by nothing, state 33 takes in terminal t, which is passed only
-/// with t + 1 next, and leads to state 1 again. With 31 next state 33 is the 1,024th state, and what
-/// it does then is given.
-fn growing(last: Action) -> Book {
-    let mut actions = vec![Action::Error; 65 * 32];
-    let mut gotos = vec![None; 65 * 2];
-    actions[1] = Action::Reduce(0);
-    gotos[0] = Some(1);
-    for state in 1..33 {
-        actions[state * 32 + 1..][..31].fill(Action::Reduce(0));
-        gotos[state * 2] = Some(state as u16 + 1);
-    }
-    for terminal in 1..31 {
-        let taken = 33 + terminal;
-        actions[33 * 32 + terminal] = Action::Shift(taken as u16);
-        actions[taken * 32 + terminal + 1] = Action::Reduce(1);
-    }
-    actions[33 * 32 + 31] = last;
-    gotos[33 * 2] = Some(64);
-    gotos[33 * 2 + 1] = Some(1);
-    Book {
-        sizes: Sizes {
-            form: 1,
-            terminals: 32,
-            nonterminals: 2,
-            states: 65,
-            productions: 2,
-        },
-        productions: vec![
-            Production { left: 0, length: 0 },
-            Production { left: 1, length: 1 },
-        ],
-        ranks: (0..32).collect(),
-        actions,
-        gotos,
-    }
 }
 
 /// A pair with the 1,024th state on top is reached, one with a 1,025th is not, be it pushed by a
@@ -664,16 +595,12 @@ fn spinning(calls: &Calls) {
     let book = empties("start -> c x\nc -> b\n");
     let pieces = Pieces::of(&book);
     assert_eq!(pieces.pairs, map_of(&book));
-    let late = book.goto(0, 1).expect("the goto of c");
-    let Action::Shift(after) = book.action(late, 1) else {
-        panic!("x is not shifted");
-    };
-    let done = book.goto(0, 0).expect("the goto of start");
+    let late = after(&book, &[1]);
     // What comes after it is past the limits too.
     let places = [
         pair(&book, late, 1),
-        pair(&book, after.into(), 0),
-        pair(&book, done, 0),
+        pair(&book, shifted(&book, late, 1), 0),
+        pair(&book, after(&book, &[0]), 0),
     ];
     let first = places.into_iter().min().expect("three");
     assert_eq!(

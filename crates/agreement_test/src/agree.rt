@@ -1,6 +1,7 @@
 // One book: the library's answers compared with the second finder's.
 ghost use Prim.Native.Nat.{_≤_};
 use crate::answers;
+use crate::failing;
 use crate::pops;
 use crate::sentences;
 use crate::tables;
@@ -14,21 +15,28 @@ pub struct Tally {
     pub open: usize,
 }
 
-// The second finder's answers: the least lengths of sentences that were tried, those sentences, and the distances. Answers a length:
-// all shorter sentences were tried.
+// The second finder's answers: the least lengths of sentences that were tried, those sentences, what lies over each pair, and the
+// distances. Answers a length: all shorter sentences were tried.
 fn second(
     tables: &[u16; 768],
     t: usize,
     least: &mut [u16; 256],
     words: &mut [u8; 262144],
+    over: &mut [u16; 65536],
     dist: &mut [u16; 256],
 ) -> usize
     requires { ⌜ (1 ≤ t) × (t ≤ 8) ⌝ }
 {
-    if !pops::distances(tables, t, dist) {
+    if !pops::distances(tables, t, over, dist) {
         trial::text(b" unsettled");
     }
-    sentences::try_all(tables, t, least, words)
+    sentences::try_all(tables, false, t, least, words)
+}
+
+fn tell_second(tried: usize, least: &[u16; 256], dist: &[u16; 256]) {
+    trial::label(b": reached ", verdicts::below(dist, 1002));
+    trial::label(b", by sentences of fewer than ", tried);
+    trial::label(b" symbols ", verdicts::below(least, 1001));
 }
 
 // The library's answers, one of them changed if what is not 0, beside the second finder's.
@@ -92,19 +100,38 @@ pub fn tell(r: Tally) {
     trial::text(b" undecided\n");
 }
 
+// The verdict on each pair.
+fn all_pairs(cells: &[u16], tables: &[u16; 768], s: usize, t: usize, what: usize) -> [u8; 256]
+    requires { ⌜ (1 ≤ t) × (t ≤ 8) ⌝ }
+{
+    let mut least = [sentences::NONE; 256];
+    let mut words = [0u8; 262144];
+    let mut over = [pops::UNREACHED; 65536];
+    let mut dist = [pops::UNREACHED; 256];
+    let tried = second(tables, t, &mut least, &mut words, &mut over, &mut dist);
+    tell_second(tried, &least, &dist);
+    let mut all = compare(cells, tables, s, t, tried, &least, &words, &dist, what);
+    failing::compare(
+        cells,
+        tables,
+        s,
+        t,
+        &over,
+        &dist,
+        &mut least,
+        &mut words,
+        what,
+        &mut all,
+    );
+    all
+}
+
 fn of_sizes(cells: &[u16], t: usize, n: usize, s: usize, p: usize, what: usize) -> Tally
     requires { ⌜ (1 ≤ t) × (t ≤ 8) × (s ≤ 32) × (p ≤ 32) ⌝ }
 {
     let tables = tables::tables_of(cells, t, n, s, p);
-    let mut least = [sentences::NONE; 256];
-    let mut words = [0u8; 262144];
-    let mut dist = [pops::UNREACHED; 256];
-    let tried = second(&tables, t, &mut least, &mut words, &mut dist);
-    trial::label(b": reached ", verdicts::below(&dist, 1002));
-    trial::label(b", by sentences of fewer than ", tried);
-    trial::label(b" symbols ", verdicts::below(&least, 1001));
+    let all = all_pairs(cells, &tables, s, t, what);
     trial::text(b":");
-    let all = compare(cells, &tables, s, t, tried, &least, &words, &dist, what);
     let r = counts(&all);
     tell(r);
     r

@@ -20,14 +20,22 @@ fn short(n: usize) -> u16 {
     n as u16
 }
 
-// What `find` says of pair k, as a cell of the map would, and its sentence.
-fn ask(cells: &[u16], k: usize, theirs: &mut [u8; 262144]) -> u16
+fn find(cells: &[u16], breaks: bool, s: u16, z: u16, work: &mut [u16], buffer: &mut [u8]) -> Found {
+    if breaks {
+        return finder::find_break(cells, s, z, work, buffer);
+    }
+    finder::find(cells, s, z, work, buffer)
+}
+
+// What `find` or `find_break` says of pair k, as a cell of the map would, and its sentence.
+fn ask(cells: &[u16], breaks: bool, k: usize, theirs: &mut [u8; 262144]) -> u16
     requires { ⌜ k < 256 ⌝ }
 {
     let mut work = [0u16; 32768];
     let mut buffer = [0u8; 1000];
-    match finder::find(
+    match find(
         cells,
+        breaks,
         (k / 8) as u16,
         (k % 8) as u16,
         &mut work,
@@ -65,7 +73,7 @@ fn each_pair(
     while k < 256 {
         if is_pair(s, t, k) {
             put(map, k, tables::number_at(flat, next));
-            put(lengths, k, ask(cells, k, theirs));
+            put(lengths, k, ask(cells, false, k, theirs));
             next += 1;
         }
         k += 1;
@@ -82,11 +90,28 @@ pub fn pairs(
 ) {
     let mut work = [0u16; 32768];
     let mut flat = [REFUSED; 256];
-    finder::map(cells, &mut work, &mut flat);
+    maps::map(cells, &mut work, &mut flat);
     each_pair(cells, s, t, &flat, map, lengths, theirs);
+}
+
+// The answers of `find_break`.
+pub fn breaks(
+    cells: &[u16],
+    s: usize,
+    t: usize,
+    lengths: &mut [u16; 256],
+    theirs: &mut [u8; 262144],
+) {
+    let mut k: usize = 0;
+    while k < 256 {
+        if is_pair(s, t, k) {
+            put(lengths, k, ask(cells, true, k, theirs));
+        }
+        k += 1;
+    }
 }
 
 pub fn sets(cells: &[u16], masks: &mut [u32; 128], sizes: &mut [u32; 128]) {
     let mut work = [0u16; 32768];
-    finder::sets(cells, &mut work, masks, sizes);
+    maps::sets(cells, &mut work, masks, sizes);
 }

@@ -198,8 +198,28 @@ fn symbol(v: u8) -> usize {
     v as usize
 }
 
+// The state whose reduction under a breaks on a stack on which no more can be done, as a set.
+pub fn broken(tables: &[u16; 768], stack: &[u16; 4096], depth: usize, a: usize) -> u32
+    requires { ⌜ depth < 4096 ⌝ }
+{
+    if depth == 0 {
+        return 0;
+    }
+    let q = stack[depth - 1];
+    let code = tables::action(tables, q, a);
+    if code < 2 {
+        return 0;
+    }
+    if code % 2 == 0 {
+        return 0;
+    }
+    with(0, q)
+}
+
 // The states that are on top when all of w is in and z is not.
-pub fn after(tables: &[u16; 768], stack: &mut [u16; 4096], w: &[u8], z: usize) -> Course {
+pub fn after(tables: &[u16; 768], stack: &mut [u16; 4096], w: &[u8], z: usize) -> Course
+    ensures { λ r. ⌜ r .depth < 4096 ⌝ }
+{
     begin(stack);
     let mut depth: usize = 1;
     let mut i: usize = 0;

@@ -1,17 +1,23 @@
-// Compares the library's maps, sentences and sets with a second finder made another way, on every pair of the books in standard input,
-// and checks the lines of 'Two small books' that are not proved. The books:
+// Compares the library's maps, sentences and sets, and the reductions that break, with a second finder made another way, on every pair of
+// the books in standard input, and its judgements of lists of that finder's sentences; and checks the lines of 'Two small books' that are
+// not proved. The books:
 // - Bracket and Double;
 // - two of one terminal, whose empty runs spin and are deep;
 // - one of no nonterminal;
 // - one with loops, in which some pairs are unreached;
 // - one whose pairs have sentences of up to 1,000 symbols, and of 1,001, which are long;
 // - 36 random tables of up to 4 terminals, 3 nonterminals and 6 states, in 7 of which some sentences are longer than what is tried;
-// - 4 random tables of 6 terminals, and one of 8 terminals, 8 nonterminals and 32 states, which needs 32,768 work cells.
+// - 4 random tables of 6 terminals, and one of 8 terminals, 8 nonterminals and 32 states, which needs 32,768 work cells;
+// - one in which a reduction breaks after 1,000 symbols and another after 1,001;
+// - one in which a pair is reached by 26 symbols and passed until its reduction breaks after 156.
 // The random tables have empty productions, reductions that loop or stack states for ever, missing gotos, and reductions of more states
 // than are stacked.
 mod agree;
 mod answers;
+mod breaking;
+mod failing;
 mod follow;
+mod judged;
 mod lines;
 mod pops;
 mod sentences;
@@ -95,4 +101,6 @@ fn main() {
     bracket(&mut few);
     lines::lists(&few);
     wrong::bracket(&few);
+    few[35] = 0;
+    wrong::breaks(&few);
 }

@@ -11,7 +11,7 @@ pub const UNREACHED: u16 = 1002;
 // How many passes are made at most.
 const MOST: usize = 1000;
 
-fn plus(a: u16, b: u16) -> u16 {
+pub fn plus(a: u16, b: u16) -> u16 {
     if a >= 1002 {
         return 1002;
     }
@@ -24,7 +24,7 @@ fn plus(a: u16, b: u16) -> u16 {
     a + b
 }
 
-fn cost_over(over: &[u16; 65536], x: usize, y: usize) -> u16
+pub fn cost_over(over: &[u16; 65536], x: usize, y: usize) -> u16
     requires { ⌜ (x < 256) × (y < 256) ⌝ }
 {
     over[x * 256 + y]
@@ -57,7 +57,7 @@ fn lower_pop(pops: &mut [u16; 524288], x: usize, e: usize, v: u16) -> bool
     true
 }
 
-fn cost_to(dist: &[u16; 256], x: usize) -> u16
+pub fn cost_to(dist: &[u16; 256], x: usize) -> u16
     requires { ⌜ x < 256 ⌝ }
 {
     dist[x]
@@ -264,17 +264,21 @@ fn start(dist: &mut [u16; 256], t: usize)
     }
 }
 
-// The distances to all pairs. Answers whether the last pass changed nothing.
-pub fn distances(tables: &[u16; 768], t: usize, dist: &mut [u16; 256]) -> bool
+// The distances to all pairs, and the costs of what lies right over each. Answers whether the last pass changed nothing.
+pub fn distances(
+    tables: &[u16; 768],
+    t: usize,
+    over: &mut [u16; 65536],
+    dist: &mut [u16; 256],
+) -> bool
     requires { ⌜ t ≤ 8 ⌝ }
 {
-    let mut over = [UNREACHED; 65536];
     let mut pops = [UNREACHED; 524288];
-    begin_all(tables, t, &mut over, &mut pops);
+    begin_all(tables, t, over, &mut pops);
     start(dist, t);
     let mut k: usize = 0;
     while k < MOST {
-        if !pass(tables, &mut over, &mut pops, dist) {
+        if !pass(tables, over, &mut pops, dist) {
             return true;
         }
         k += 1;

@@ -1,4 +1,5 @@
-// The second finder's first road: all sentences in order, run on the machine. The first that reaches a pair is the shortest and first.
+// The second finder's first road: all sentences in order, run on the machine. The first that reaches a pair, or with which its reduction
+// breaks, is the shortest and first.
 // Pair (q, z) has number q * 8 + z; its sentence stands at 1,024 times that number.
 ghost use Prim.Native.Nat.{_+_, _≤_, _<_};
 ghost use lib.ListN.{length};
@@ -86,8 +87,26 @@ fn give_up(least: &mut [u16; 256], z: usize)
     }
 }
 
+// What is noted of a run: the states that were on top, or the one whose reduction breaks.
+pub fn noted(
+    tables: &[u16; 768],
+    breaks: bool,
+    stack: &[u16; 4096],
+    depth: usize,
+    tops: u32,
+    z: usize,
+) -> u32
+    requires { ⌜ depth < 4096 ⌝ }
+{
+    if breaks {
+        return follow::broken(tables, stack, depth, z);
+    }
+    tops
+}
+
 fn try_with(
     tables: &[u16; 768],
+    breaks: bool,
     stack: &mut [u16; 4096],
     w: &[u8],
     z: usize,
@@ -97,7 +116,8 @@ fn try_with(
     requires { ⌜ (z < 8) × (length (now w) ≤ 1000) ⌝ }
 {
     let s = follow::after(tables, stack, w, z);
-    note(least, words, s.tops, z, w);
+    let set = noted(tables, breaks, stack, s.depth, s.tops, z);
+    note(least, words, set, z, w);
     if !s.known {
         give_up(least, z);
     }
@@ -106,6 +126,7 @@ fn try_with(
 // A sentence, with every lookahead.
 fn try_each(
     tables: &[u16; 768],
+    breaks: bool,
     t: usize,
     stack: &mut [u16; 4096],
     w: &[u8],
@@ -116,13 +137,14 @@ fn try_each(
 {
     let mut z: usize = 0;
     while z < t {
-        try_with(tables, stack, w, z, least, words);
+        try_with(tables, breaks, stack, w, z, least, words);
         z += 1;
     }
 }
 
 fn try_front(
     tables: &[u16; 768],
+    breaks: bool,
     t: usize,
     stack: &mut [u16; 4096],
     word: &[u8],
@@ -133,13 +155,14 @@ fn try_front(
     requires { ⌜ (t ≤ 8) × (n ≤ 1000) ⌝ }
 {
     if n <= word.len() {
-        try_each(tables, t, stack, &word[..n], least, words);
+        try_each(tables, breaks, t, stack, &word[..n], least, words);
     }
 }
 
 // The first n symbols of the word.
 fn try_word(
     tables: &[u16; 768],
+    breaks: bool,
     t: usize,
     stack: &mut [u16; 4096],
     word: &[u8; 1000],
@@ -149,7 +172,7 @@ fn try_word(
 )
     requires { ⌜ (t ≤ 8) × (n ≤ 1000) ⌝ }
 {
-    try_front(tables, t, stack, word, n, least, words);
+    try_front(tables, breaks, t, stack, word, n, least, words);
 }
 
 // Raises a symbol, or sets it back to 1 where it is the last terminal. Answers whether it was raised.
@@ -180,9 +203,27 @@ fn next(word: &mut [u8; 1000], n: usize, last: u8) -> usize
     n + 1
 }
 
+fn forget_one(tables: &[u16; 768], least: &mut [u16; 256], k: usize)
+    requires { ⌜ k < 256 ⌝ }
+{
+    if !tables::is_error(tables, k) {
+        least[k] = NONE;
+    }
+}
+
+// Keeps what reached pairs with an error action.
+pub fn forget(tables: &[u16; 768], least: &mut [u16; 256]) {
+    let mut k: usize = 0;
+    while k < 256 {
+        forget_one(tables, least, k);
+        k += 1;
+    }
+}
+
 // Tries the sentences in order, and answers a length: all that are shorter were tried.
 pub fn try_all(
     tables: &[u16; 768],
+    breaks: bool,
     t: usize,
     least: &mut [u16; 256],
     words: &mut [u8; 262144],
@@ -197,7 +238,7 @@ pub fn try_all(
         if n > 1000 {
             return n;
         }
-        try_word(tables, t, &mut stack, &word, n, least, words);
+        try_word(tables, breaks, t, &mut stack, &word, n, least, words);
         if t == 1 {
             // There is no sentence but the empty one.
             return 1002;

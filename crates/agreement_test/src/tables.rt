@@ -79,6 +79,41 @@ pub fn action(tables: &[u16; 768], q: u16, a: usize) -> u16 {
     entry(tables, 0, wide(q), a)
 }
 
+fn code_of(tables: &[u16; 768], k: usize) -> u16
+    requires { ⌜ k < 256 ⌝ }
+{
+    action(tables, (k / 8) as u16, k % 8)
+}
+
+// Whether the action of pair k, which is (k / 8, k % 8), is error.
+pub fn is_error(tables: &[u16; 768], k: usize) -> bool
+    requires { ⌜ k < 256 ⌝ }
+{
+    code_of(tables, k) == 0
+}
+
+// .. or a reduction.
+pub fn reduces(tables: &[u16; 768], k: usize) -> bool
+    requires { ⌜ k < 256 ⌝ }
+{
+    let code = code_of(tables, k);
+    if code < 2 {
+        return false;
+    }
+    code % 2 == 1
+}
+
+// The production that pair k reduces.
+pub fn production(tables: &[u16; 768], k: usize) -> u16
+    requires { ⌜ k < 256 ⌝ }
+{
+    let code = code_of(tables, k);
+    if code < 2 {
+        return 0;
+    }
+    code / 2 - 1
+}
+
 pub fn goto_of(tables: &[u16; 768], q: u16, x: u16) -> u16 {
     entry(tables, GOTOS, wide(q), wide(x))
 }

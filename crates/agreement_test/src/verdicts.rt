@@ -5,6 +5,7 @@ use crate::pops::UNREACHED;
 use crate::sentences::NONE;
 use crate::sentences::UNKNOWN;
 use crate::sentences::has;
+use crate::sentences::noted;
 use crate::tables;
 
 pub const SAME: u8 = 1;
@@ -46,7 +47,7 @@ pub fn begin(s: usize, t: usize, least: &[u16; 256]) -> [u8; 256] {
 }
 
 // Pair k is the same so far; it stays so if the answers agree.
-fn judge(verdicts: &mut [u8; 256], k: usize, agree: bool)
+pub fn judge(verdicts: &mut [u8; 256], k: usize, agree: bool)
     requires { ⌜ k < 256 ⌝ }
 {
     if verdicts[k] != SAME {
@@ -114,8 +115,8 @@ fn length_at(least: &[u16; 256], k: usize) -> usize
     n
 }
 
-// Whether the n symbols from a place on reach pair k.
-fn reaches(tables: &[u16; 768], k: usize, words: &[u8], start: usize, n: usize) -> bool
+// Whether the n symbols from a place on reach pair k, or make it break.
+fn brings(tables: &[u16; 768], breaks: bool, k: usize, words: &[u8], start: usize, n: usize) -> bool
     requires { ⌜ (k < 256) × (start ≤ 261120) × (n ≤ 1000) ⌝ }
 {
     let end = start + n;
@@ -124,18 +125,51 @@ fn reaches(tables: &[u16; 768], k: usize, words: &[u8], start: usize, n: usize) 
     }
     let mut stack = [0u16; 4096];
     let c = follow::after(tables, &mut stack, &words[start..end], k % 8);
-    has(c.tops, k / 8)
+    let set = noted(tables, breaks, &stack, c.depth, c.tops, k % 8);
+    has(set, k / 8)
 }
 
-// Whether the sentence that is told for pair k, if there is one, reaches it.
-fn sound(tables: &[u16; 768], lengths: &[u16; 256], theirs: &[u8; 262144], k: usize) -> bool
+// Whether the sentence that is told for pair k, if there is one, brings the machine there.
+fn sound(
+    tables: &[u16; 768],
+    breaks: bool,
+    lengths: &[u16; 256],
+    theirs: &[u8; 262144],
+    k: usize,
+) -> bool
     requires { ⌜ k < 256 ⌝ }
 {
     let n = tables::wide(lengths[k]);
     if n > 1000 {
         return true;
     }
-    reaches(tables, k, theirs, k * 1024, n)
+    brings(tables, breaks, k, theirs, k * 1024, n)
+}
+
+// Whether the library's length and sentence for pair k are those of the second finder.
+fn found(
+    tables: &[u16; 768],
+    breaks: bool,
+    tried: usize,
+    least: &[u16; 256],
+    words: &[u8; 262144],
+    dist: &[u16; 256],
+    lengths: &[u16; 256],
+    theirs: &[u8; 262144],
+    k: usize,
+) -> bool
+    requires { ⌜ k < 256 ⌝ }
+{
+    if !fits(lengths, least, k, tried) {
+        return false;
+    }
+    if !equal(lengths, dist, k) {
+        return false;
+    }
+    if !same_symbols(words, theirs, k, length_at(least, k)) {
+        return false;
+    }
+    sound(tables, breaks, lengths, theirs, k)
 }
 
 // Whether the library says of pair k, by the map, by find and by the sets, what the second finder says.
@@ -156,22 +190,13 @@ fn agrees(
     if !fits(map, least, k, tried) {
         return false;
     }
-    if !fits(lengths, least, k, tried) {
-        return false;
-    }
     if !equal(map, dist, k) {
-        return false;
-    }
-    if !equal(lengths, dist, k) {
         return false;
     }
     if !told(masks, dist, k) {
         return false;
     }
-    if !same_symbols(words, theirs, k, length_at(least, k)) {
-        return false;
-    }
-    sound(tables, lengths, theirs, k)
+    found(tables, false, tried, least, words, dist, lengths, theirs, k)
 }
 
 pub fn by_pairs(
@@ -204,6 +229,66 @@ pub fn by_pairs(
                 k,
             ),
         );
+        k += 1;
+    }
+}
+
+// .. and by find_break; without a reduction it says that none breaks.
+fn agrees_break(
+    tables: &[u16; 768],
+    tried: usize,
+    least: &[u16; 256],
+    words: &[u8; 262144],
+    costs: &[u16; 256],
+    lengths: &[u16; 256],
+    theirs: &[u8; 262144],
+    k: usize,
+) -> bool
+    requires { ⌜ k < 256 ⌝ }
+{
+    if !tables::reduces(tables, k) {
+        return lengths[k] == UNREACHED;
+    }
+    found(tables, true, tried, least, words, costs, lengths, theirs, k)
+}
+
+pub fn by_breaks(
+    tables: &[u16; 768],
+    tried: usize,
+    least: &[u16; 256],
+    words: &[u8; 262144],
+    costs: &[u16; 256],
+    lengths: &[u16; 256],
+    theirs: &[u8; 262144],
+    verdicts: &mut [u8; 256],
+) {
+    let mut k: usize = 0;
+    while k < 256 {
+        judge(
+            verdicts,
+            k,
+            agrees_break(tables, tried, least, words, costs, lengths, theirs, k),
+        );
+        k += 1;
+    }
+}
+
+fn open_one(least: &[u16; 256], verdicts: &mut [u8; 256], k: usize)
+    requires { ⌜ k < 256 ⌝ }
+{
+    if verdicts[k] != SAME {
+        return;
+    }
+    if least[k] == UNKNOWN {
+        verdicts[k] = OPEN;
+    }
+}
+
+// What is not known of a pair cannot be compared.
+pub fn leave_open(least: &[u16; 256], verdicts: &mut [u8; 256]) {
+    let mut k: usize = 0;
+    while k < 256 {
+        open_one(least, verdicts, k);
         k += 1;
     }
 }

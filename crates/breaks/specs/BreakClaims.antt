@@ -1,10 +1,14 @@
 -- Reductions that break, by claims. Assumes nothing.
+use mathlib.Core.Bool.{true}
+use mathlib.Core.List.{List}
 use mathlib.Core.Logic.{_⊎_}
 use mathlib.Core.Path.{_≡_}
-use Prim.Native.Nat.{ℕ, _<_}
+use Prim.Native.Nat.{ℕ, suc, _+_, _<_}
+use lib.ListN.{drop}
 use Rattle.book.specs.Tables.{Tables}
 use Rattle.walk.specs.Scale.{Scale}
 use Rattle.walk.specs.Claims.{Claims, Claimed, Least, OnwardTo}
+use Rattle.walk.specs.Ends.{bare}
 
 -- state q has no goto under the left side of p, and with c next as many transitions as p is long lead from it to s with z next, at the cost v
 abbrev pub Lacking : Scale → Tables → Claims → ℕ → ℕ → ℕ → ℕ → ℕ → ℕ → Type 0
@@ -30,3 +34,8 @@ LayerTo σ B claim s z m L = (q a : ℕ) → q < B .states → a < B .terminals 
 pub record ToBreak (σ : Scale) (B : Tables) (claim : Claims) (p s z : ℕ) (G : ℕ → ℕ → ℕ) (L : ℕ → ℕ → ℕ → ℕ) : Type 0 where
   pub far : (q a : ℕ) → q < B .states → a < B .terminals → Least σ (ClaimedFar σ B claim p s z q a) (G q a)
   pub near : (m : ℕ) → m < B .len p → LayerTo σ B claim s z m (L m)
+
+-- `BreaksOn` by claims
+pub data ClaimedBreak (σ : Scale) (B : Tables) (claim : Claims) (p s z q : ℕ) (st : List ℕ) (a v n : ℕ) : Type 0 where
+  claimed-far : ClaimedFar σ B claim p s z q a v → ClaimedBreak σ B claim p s z q st a v n
+  claimed-near : (k : ℕ) → Claimed σ B claim q a v z n s → B .len p ≡ n + suc k → bare B (B .lhs p) (drop k st) ≡ true → ClaimedBreak σ B claim p s z q st a v n

@@ -1,1 +1,9 @@
+pub mod Breaking
+pub mod BreakingLaws
 pub mod BreakClaims
+pub mod ToGoLaws
+pub mod BreakClaimsLaws
+pub mod AnswerBreakLaws
+pub mod Theory
+pub mod TheoryLaws
+pub mod Examples

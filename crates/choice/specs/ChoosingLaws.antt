@@ -9,22 +9,18 @@ use lib.Seq.{take-suc, length-take-le}
 use Rattle.number.specs.LentLaws.{over-more}
 use Rattle.book.specs.Tables.{Tables}
 use Rattle.book.specs.TablesLaws.{InRange}
-use Rattle.machine.specs.Machine.{done, Reaches}
+use Rattle.machine.specs.Machine.{done}
 use Rattle.walk.specs.Scale.{Scale, weight}
 use Rattle.walk.specs.Cost.{Exact}
 use Rattle.walk.specs.CostLaws.{cost-append, attained-map}
-use Rattle.walk.specs.Claims.{Claims, Closed, Witnessed, Least, Onward}
-use Rattle.walk.specs.Walk.{GetsTo}
-use Rattle.walk.specs.WalkLaws.{descends-map}
+use Rattle.walk.specs.Claims.{Claims}
 use Rattle.walk.specs.Answer.{Sentence}
 use Rattle.walk.specs.AnswerLaws.{best-map}
 use Rattle.walk.specs.ShiftLaws.{Ready}
-use Rattle.walk.specs.Choice.{Chosen, AfterFrom, Onwards, WithinOf, Brings, LandsIn}
-use Rattle.walk.specs.ChoiceLaws.{Tops, reaches-brings, gets-brings, chosen-none, choose, choose-some, choose-ready, choose-terminal, choose-weight, best-chosen, after-more, onwards-map, brings-onwards}
-use Rattle.waiting.specs.Completes.{Completes}
+use Rattle.walk.specs.Choice.{Chosen, WithinOf, Brings, LandsIn, Guides}
+use Rattle.walk.specs.ChoiceLaws.{chosen-none, choose, choose-some, choose-ready, choose-terminal, choose-weight, best-chosen, after-more, brings-onwards}
 use Rattle.choice.specs.Choice.{Completing, LowestBy}
 use Rattle.choice.specs.Choosing.{Choosing, Chose}
-use Rattle.choice.specs.GoalLaws.{completes-within}
 use Rattle.choice.specs.Taking.{Stacked, Taken}
 
 -- x is the next symbol of the sentence
@@ -34,12 +30,6 @@ pub record Picked (σ : Scale) (rank : ℕ → ℕ) (B : Tables) (P : List ℕ �
   pub ready : Ready B st x
   pub chosen : Chosen σ rank P (word ++ (x ∷ [])) (left - weight σ x)
   pub affords : weight σ x ≤ left
-
--- what the words of P are chosen by, where the machine began with a stack: after u they go on as H says of its stack then, and T tells with which
--- symbols one within a bound does
-pub record Chooser (σ : Scale) (B : Tables) (P : List ℕ → Type 0) (begun : List ℕ) (H : List ℕ → ℕ → List ℕ → Type 0) (T : List ℕ → ℕ → ℕ → Type 0) : Type 0 where
-  pub onwards : (u : List ℕ) {st : List ℕ} → AfterFrom B begun u st → Onwards B P u st (H st)
-  pub tells : {q x r : ℕ} {st : List ℕ} → q < B .states → x < B .terminals → r ≤ σ .limit → T (q ∷ st) r x ↔ WithinOf σ (H (q ∷ st)) x r
 
 -- a stack, bottom first, with a state on top
 top-first : (B : Tables) (stack : List ℕ) (depth : ℕ) → Stacked (B .states) stack depth → depth ≤ length stack
@@ -54,26 +44,27 @@ top-first B stack depth s h =
       s .states (depth - 1) (omega (arith, s .some)),
     )
 
-module _ {σ : Scale} {rank : ℕ → ℕ} {B : Tables} {P : List ℕ → Type 0} {begun : List ℕ} {H : List ℕ → ℕ → List ℕ → Type 0} {T : List ℕ → ℕ → ℕ → Type 0}
-    {n depth k left : ℕ} {lent buffer stack : List ℕ} (i : InRange B) (c : Chooser σ B P begun H T) (t : Choosing σ rank B P begun n lent buffer stack depth k left)
+module _ {σ : Scale} {rank : ℕ → ℕ} {B : Tables} {claim : Claims} {z : ℕ} {Goal : ℕ → List ℕ → Type 0} {E : List ℕ → ℕ → ℕ → ℕ} {begun : List ℕ} {n depth k left : ℕ} {lent buffer stack : List ℕ}
+    (i : InRange B) (c : Guides σ B claim z Goal E) (t : Choosing σ rank B (Brings B z Goal begun) begun n lent buffer stack depth k left)
     (some : 1 ≤ left) (hr : left ≤ σ .limit) (fits : depth ≤ length stack) where
-  tells-here : {x : ℕ} → x < B .terminals → T (reverse (take depth stack)) left x ↔ WithinOf σ (H (reverse (take depth stack))) x left
+  tells-here : {x : ℕ} → x < B .terminals → Completing σ B claim E (take depth stack) left x ↔ WithinOf σ (LandsIn B z Goal (reverse (take depth stack))) x left
   tells-here hx = let (q, st, e, hq) = top-first B stack depth (t .stacked) fits in rw e (c .tells hq hx hr)
 
   -- some terminal passes the test ..
-  pick-some : (x : ℕ) × ((1 ≤ x) × (x < B .terminals)) × T (reverse (take depth stack)) left x
+  pick-some : (x : ℕ) × ((1 ≤ x) × (x < B .terminals)) × Completing σ B claim E (take depth stack) left x
   pick-some =
-      let o = c .onwards (t .word) (t .after) in
+      let o = brings-onwards (t .word) (t .after) in
       let (x, k) = choose-some o (t .chosen) some in
       let h = choose-terminal o (t .chosen) some i x k in
       (x, h, tells-here (h .1) .1 k)
 
   -- .. and the lowest by rank that does is right
-  pub pick : {x m : ℕ} → B .terminals ≡ m → LowestBy rank (T (reverse (take depth stack)) left) m x → Picked σ rank B P (t .word) (reverse (take depth stack)) left x
-  pick {x} {m} all l =
-      let o = c .onwards (t .word) (t .after) in
-      let (z, h, k) = pick-some in
-      let below : x < m = l .first z (h .0) (omega (arith, all)) k .0 in
+  pub choosing-pick : {x m : ℕ} → B .terminals ≡ m → LowestBy rank (Completing σ B claim E (take depth stack) left) m x
+      → Picked σ rank B (Brings B z Goal begun) (t .word) (reverse (take depth stack)) left x
+  choosing-pick {x} {m} all l =
+      let o = brings-onwards (t .word) (t .after) in
+      let (y, h, k) = pick-some in
+      let below : x < m = l .first y (h .0) (omega (arith, all)) k .0 in
       let hx : x < B .terminals = omega (arith, all) in
       let within = tells-here hx .0 (l .found below .1) in
       record {
@@ -83,32 +74,6 @@ module _ {σ : Scale} {rank : ℕ → ℕ} {B : Tables} {P : List ℕ → Type 0
         chosen = choose o (t .chosen) some x within (λ y w. let (one, hy) = choose-terminal o (t .chosen) some i y w in l .first y one (omega (arith, all)) (tells-here hy .1 w) .1);
         affords = choose-weight o (t .chosen) some x within;
       }
-
--- ---- one pair
--- the goal is one pair
-abbrev pub OnePair : ℕ → ℕ → ℕ → ℕ → Type 0
-OnePair s z s′ z′ = (s′ ≡ s) × (z′ ≡ z)
-
--- G has the least costs to go to the pair (s, z)
-abbrev pub ToPair : Scale → Tables → Claims → ℕ → ℕ → (ℕ → ℕ → ℕ) → Type 0
-ToPair σ B claim s z G = (q a : ℕ) → q < B .states → a < B .terminals → Least σ (Onward σ B claim (OnePair s z) q a) (G q a)
-
-module _ {σ : Scale} {B : Tables} {claim : Claims} {G : ℕ → ℕ → ℕ} {s z : ℕ} (i : InRange B) (c : Closed σ B claim) (w : Witnessed σ B claim) (hz : z < B .terminals)
-    (least : ToPair σ B claim s z G) where
-  tops-gets : {st : List ℕ} (x : ℕ) (v : List ℕ) → LandsIn B z (Tops s) st x v ↔ GetsTo B (OnePair s z) st x v
-  tops-gets x v =
-      (λ l. descends-map (λ q st a w n r. (s, z, (refl, refl), r)) (gets-brings x v .0 l), λ g. gets-brings x v .1 (descends-map (λ q st a w n (s′, z′, j, r). rw (j .0, j .1) at r) g))
-
-  pub pair-chooser : (begun : List ℕ) → Chooser σ B (Brings B z (Tops s) begun) begun (GetsTo B (OnePair s z)) (λ st r x. (v : ℕ) × Completes σ B claim G st x v × (v ≤ r))
-  pair-chooser begun = record {
-    onwards = λ u t. onwards-map (λ v. (λ p. p, λ p. p)) tops-gets (brings-onwards u t);
-    tells = λ hq hx hr. completes-within i c w (λ s′ z′ (e, f). rw f hz) least hq hx hr;
-  }
-
-  pub choosing-pick : {rank : ℕ → ℕ} {begun : List ℕ} {n k left depth x m : ℕ} {lent buffer stack : List ℕ}
-      (t : Choosing σ rank B (Brings B z (Tops s) begun) begun n lent buffer stack depth k left) → 1 ≤ left → left ≤ σ .limit → depth ≤ length stack → B .terminals ≡ m
-      → LowestBy rank (Completing σ B claim G (take depth stack) left) m x → Picked σ rank B (Brings B z (Tops s) begun) (t .word) (reverse (take depth stack)) left x
-  choosing-pick {begun} t some hr fits all l = pick i (pair-chooser begun) t some hr fits all l
 
 -- ---- the loop
 pub begun-length : (depth : ℕ) (stack : List ℕ) → depth ≤ length stack → length (reverse (take depth stack)) ≡ depth
@@ -151,21 +116,17 @@ module _ {σ : Scale} {rank : ℕ → ℕ} {B : Tables} {P : List ℕ → Type 0
       answer = best-chosen (rw none at (t .chosen)) (omega (arith, t .paid));
     }
 
--- the same words
-chose-map : {σ : Scale} {rank : ℕ → ℕ} {P Q : List ℕ → Type 0} {n : ℕ} {lent buffer : List ℕ} → ((w : List ℕ) → P w ↔ Q w) → Chose σ rank P n lent buffer → Chose σ rank Q n lent buffer
-chose-map {σ} {rank} f c = record { word = c .word; paid = c .paid; front = c .front; answer = best-map σ rank f (Sentence (c .word)) (c .answer) }
+-- ---- the same words
+module _ {σ : Scale} {P Q : List ℕ → Type 0} {n : ℕ} (f : (w : List ℕ) → P w ↔ Q w) where
+  pub exact-map : Exact σ P n → Exact σ Q n
+  exact-map e = record { least = λ w q. e .least w (f w .1 q); attained = attained-map σ (λ w p. f w .0 p) (e .attained) }
+
+  pub chose-map : {rank : ℕ → ℕ} {lent buffer : List ℕ} → Chose σ rank P n lent buffer → Chose σ rank Q n lent buffer
+  chose-map {rank} c = record { word = c .word; paid = c .paid; front = c .front; answer = best-map σ rank f (Sentence (c .word)) (c .answer) }
 
 -- ---- from the start
 pub start-stacked : {s : ℕ} {stack : List ℕ} → 0 < s → getD stack 0 0 ≡ 0 → Stacked s stack 1
 start-stacked hs e = record { some = omega arith; states = λ k h. let z : k ≡ 0 = omega (arith, h) in rw (z, e) hs }
 
-start-stack : (stack : List ℕ) → 1 ≤ length stack → getD stack 0 0 ≡ 0 → reverse (take 1 stack) ≡ 0 ∷ []
+pub start-stack : (stack : List ℕ) → 1 ≤ length stack → getD stack 0 0 ≡ 0 → reverse (take 1 stack) ≡ 0 ∷ []
 start-stack stack h e = ap reverse (take-suc stack 0 0 h) ∙ rw e
-
-module _ {B : Tables} {s z : ℕ} (i : InRange B) where
-  module _ {σ : Scale} {n : ℕ} (stack : List ℕ) (some : 1 ≤ length stack) (first : getD stack 0 0 ≡ 0) where
-    pub start-exact : Exact σ (λ w. Reaches B w z s) n → Exact σ (Brings B z (Tops s) (reverse (take 1 stack))) n
-    start-exact e = rw (start-stack stack some first) (record { least = λ w b. e .least w (reaches-brings i w .0 b); attained = attained-map σ (λ w p. reaches-brings i w .1 p) (e .attained) })
-
-    pub start-chose : {rank : ℕ → ℕ} {lent buffer : List ℕ} → Chose σ rank (Brings B z (Tops s) (reverse (take 1 stack))) n lent buffer → Chose σ rank (λ w. Reaches B w z s) n lent buffer
-    start-chose c = chose-map (reaches-brings i) (rw (start-stack stack some first) at c)

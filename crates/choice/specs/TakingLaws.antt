@@ -29,7 +29,7 @@ pub record Spot (B : Tables) (x : ℕ) (to stack : List ℕ) (depth kept g : ℕ
 
 module _ {B : Tables} {claim : Claims} {x depth : ℕ} {to stack : List ℕ} {G : ℕ → ℕ → ℕ} (i : InRange B) (w : Witnessed plain B claim) (f : Still B x to G)
     (s : Stacked (B .states) stack depth) (fits : depth ≤ length stack) where
-  pub spot : {kept g : ℕ} → SearchReached plain B claim G (take depth stack) x 0 kept g → Spot B x to stack depth kept g
+  pub spot : {kept g : ℕ} → SearchReached plain B claim (λ st. G) (take depth stack) x 0 kept g → Spot B x to stack depth kept g
   spot {kept} {g} a =
       let long : length (take depth stack) ≡ depth = length-take-le depth stack fits in
       let low : kept < depth = omega (arith, a .kept) in

@@ -4,9 +4,11 @@ ghost use mathlib.Core.Path.{_≡_};
 ghost use Prim.Native.Nat.{_≤_, _<_};
 ghost use Rattle.book.specs.Order.{placeIn, Arranged};
 ghost use Rattle.book.specs.Tables.{tablesOf};
+ghost use Rattle.walk.specs.Ends.{endCost};
 ghost use Rattle.walk.specs.Scale.{plain};
 ghost use Rattle.layers.specs.Crossing.{claimIn, Usable};
-ghost use Rattle.layers.specs.Layer.{entryIn};
+ghost use Rattle.layers.specs.Layer.{entryIn, layerIn};
+ghost use Rattle.search.specs.Ends.{Layered};
 ghost use Rattle.search.specs.Search.{Stack};
 ghost use Rattle.waiting.specs.Pending.{Pends};
 ghost use Rattle.search.specs.Settle.{SearchRoom};
@@ -22,6 +24,9 @@ fn completes(
     table: &[u16],
     rows: &[u8; 4096],
     togo: &[u16; 4096],
+    due: &[u16],
+    len: usize,
+    left: usize,
     pending: &[u8],
     stack: &[u16],
     a: usize,
@@ -35,12 +40,12 @@ fn completes(
 ) -> bool
     requires { ⌜ Usable plain d (now cells) (now table) (now rows) ⌝ }
     requires { ⌜ (a < d .t) × (r ≤ plain .limit) ⌝ }
-    requires { ⌜ Stack (d .s) (now stack) ⌝ }
+    requires { ⌜ Layered d (now due) len left × Stack (d .s) (now stack) ⌝ }
     requires { ⌜ Pends (tablesOf (now cells)) (now pending) ⌝ }
     requires { ⌜ SearchRoom (now values) (now next) (now events) (now done) ⌝ }
     ensures { λ _. ⌜ SearchRoom (now (values .exit)) (now (next .exit)) (now (events .exit)) (now (done .exit)) ⌝ }
-    ensures { λ b. ⌜ (b ≡ true → (1 ≤ a) × Completing plain (tablesOf (now (cells .entry))) (claimIn d (now (table .entry))) (entryIn (now (togo .entry))) (now (stack .entry)) r a) ⌝ }
-    ensures { λ b. ⌜ (b ≡ false → 1 ≤ a → Completing plain (tablesOf (now (cells .entry))) (claimIn d (now (table .entry))) (entryIn (now (togo .entry))) (now (stack .entry)) r a → ⊥) ⌝ }
+    ensures { λ b. ⌜ (b ≡ true → (1 ≤ a) × Completing plain (tablesOf (now (cells .entry))) (claimIn d (now (table .entry))) (endCost (tablesOf (now (cells .entry))) left len (entryIn (now (togo .entry))) (layerIn (now (due .entry)))) (now (stack .entry)) r a) ⌝ }
+    ensures { λ b. ⌜ (b ≡ false → 1 ≤ a → Completing plain (tablesOf (now (cells .entry))) (claimIn d (now (table .entry))) (endCost (tablesOf (now (cells .entry))) left len (entryIn (now (togo .entry))) (layerIn (now (due .entry)))) (now (stack .entry)) r a → ⊥) ⌝ }
 {
     if a == 0 {
         return false;
@@ -51,6 +56,9 @@ fn completes(
         table,
         rows,
         togo,
+        due,
+        len,
+        left,
         pending,
         stack,
         a,
@@ -74,6 +82,9 @@ pub fn lowest(
     table: &[u16],
     rows: &[u8; 4096],
     togo: &[u16; 4096],
+    due: &[u16],
+    len: usize,
+    left: usize,
     pending: &[u8],
     order: &[u8; 32],
     stack: &[u16],
@@ -87,12 +98,12 @@ pub fn lowest(
 ) -> usize
     requires { ⌜ Usable plain d (now cells) (now table) (now rows) ⌝ }
     requires { ⌜ r ≤ plain .limit ⌝ }
-    requires { ⌜ Stack (d .s) (now stack) ⌝ }
+    requires { ⌜ Layered d (now due) len left × Stack (d .s) (now stack) ⌝ }
     requires { ⌜ Pends (tablesOf (now cells)) (now pending) ⌝ }
     requires { ⌜ Arranged (d .t) (now order) ⌝ }
     requires { ⌜ SearchRoom (now values) (now next) (now events) (now done) ⌝ }
     ensures { λ _. ⌜ SearchRoom (now (values .exit)) (now (next .exit)) (now (events .exit)) (now (done .exit)) ⌝ }
-    ensures { λ a. ⌜ LowestBy (placeIn (now (order .entry))) (Completing plain (tablesOf (now (cells .entry))) (claimIn d (now (table .entry))) (entryIn (now (togo .entry))) (now (stack .entry)) r) (d .t) a ⌝ }
+    ensures { λ a. ⌜ LowestBy (placeIn (now (order .entry))) (Completing plain (tablesOf (now (cells .entry))) (claimIn d (now (table .entry))) (endCost (tablesOf (now (cells .entry))) left len (entryIn (now (togo .entry))) (layerIn (now (due .entry)))) (now (stack .entry)) r) (d .t) a ⌝ }
 {
     let t = d.t;
     let mut k: usize = 0;
@@ -104,6 +115,9 @@ pub fn lowest(
             table,
             rows,
             togo,
+            due,
+            len,
+            left,
             pending,
             stack,
             a,

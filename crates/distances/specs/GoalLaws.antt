@@ -102,18 +102,22 @@ module _ {σ : Scale} {d : Sizes} {cells : List ℕ} (h : Holds d cells) (dist :
         goto : {w : ℕ} (X : ℕ) → TowardGoto σ d (tablesOf cells) claim (distanceIn σ dist) q a X w → Sooner σ (tablesOf cells) claim (distanceIn σ dist) q a w
         goto X (by-goto b e hb) = from-goto X b e (rw (terminals-are h) hb)
 
+    pub sooner-least : Least σ (Sooner σ (tablesOf cells) claim (distanceIn σ dist) q a) r
+    sooner-least = record { below = λ v x. sooner-below x; attained = sooner-attained }
+
     pub nearest : distanceIn σ dist q a ≤ r → LeastApproach σ (tablesOf cells) claim q a (distanceIn σ dist)
     nearest l = record { bound = λ x. le-trans l (sooner-below x) }
 
-  -- from a row that can be passed over nothing is near
-  pub nearest-skipped : {claim : Claims} {rows : List ℕ} (q a : ℕ) → Skips σ (tablesOf cells) claim rows → rowIn rows q a ≡ 0 → a < tablesOf cells .terminals
-      → Bounded σ (tablesOf cells .terminals) dist → LeastApproach σ (tablesOf cells) claim q a (distanceIn σ dist)
-  nearest-skipped {claim} q a k o ha b = record { bound = λ x. low x }
-    where
-      low : {v : ℕ} → Sooner σ (tablesOf cells) claim (distanceIn σ dist) q a v → distanceIn σ dist q a ≤ v
-      low (from-shift c e hc) = absurd (k .shiftless o e)
-      low (from-goto {q₁} X c g hc) =
-          omega (arith, b .most q a ha, plus-far-left σ (claim q X a c) (distanceIn σ dist q₁ c) (omega (arith, k .unclaimed {z = c} o ha hc g)))
+-- from a row that can be passed over a transition makes nothing below unreached ..
+pub sooner-skipped : {σ : Scale} {B : Tables} {claim : Claims} {rows : List ℕ} {G : ℕ → ℕ → ℕ} {q a v : ℕ} → Skips σ B claim rows → rowIn rows q a ≡ 0 → a < B .terminals
+    → Sooner σ B claim G q a v → unreached σ ≤ v
+sooner-skipped k o ha (from-shift c e hc) = absurd (k .shiftless o e)
+sooner-skipped {σ} {claim} {G} {q} {a} k o ha (from-goto {q₁} X c g hc) = omega (arith, plus-far-left σ (claim q X a c) (G q₁ c) (omega (arith, k .unclaimed {z = c} o ha hc g)))
+
+-- .. so nothing is near
+pub nearest-skipped : {σ : Scale} {B : Tables} {claim : Claims} {rows dist : List ℕ} (q a : ℕ) → Skips σ B claim rows → rowIn rows q a ≡ 0 → a < B .terminals
+    → Bounded σ (B .terminals) dist → LeastApproach σ B claim q a (distanceIn σ dist)
+nearest-skipped q a k o ha b = record { bound = λ x. le-trans (b .most q a ha) (sooner-skipped k o ha x) }
 
 -- ---- states without a value
 module _ {σ : Scale} {t : ℕ} {flags dist : List ℕ} (m : Marked σ t flags dist) where

@@ -1,14 +1,4 @@
-pub mod Admitted
 pub mod Finder
 pub mod FinderLaws
-pub mod Rows
-pub mod RowsLaws
-pub mod MapLaws
-pub mod Reached
-pub mod ReachedLaws
-pub mod Pair
 pub mod PairLaws
-pub mod AgreementLaws
 pub mod AlikeLaws
-pub mod Failing
-pub mod FailingLaws

@@ -23,9 +23,9 @@ use Rattle.lists.specs.ReadingLaws.{list-ahead}
 use Rattle.lists.specs.declared.Entry.{Entry}
 use Rattle.lists.specs.declared.Listing.the-variants.{Entries, Refused as ListingRefused}
 use Rattle.lists.specs.declared.Rest.{Rest}
-use Rattle.finder.specs.Finder.{workCells}
-use Rattle.finder.specs.FinderLaws.{over-zeros}
-use Rattle.finder.specs.MapLaws.{work-cleared}
+use Rattle.work.specs.Work.{workCells}
+use Rattle.work.specs.WorkLaws.{over-zeros}
+use Rattle.work.specs.WorkLaws.{work-cleared}
 use Rattle.judgement.specs.Judgement.{judgeRefusals, course, Judged, Judges}
 use Rattle.judgement.specs.Turns.{EntriesStanding, courseAt}
 use Rattle.judgement.specs.declared.Judgement.{Judgement}

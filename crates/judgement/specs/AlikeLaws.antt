@@ -7,7 +7,7 @@ use Rattle.number.specs.Lent.{over}
 use Rattle.book.specs.CallLaws.{concludes-alike}
 use Rattle.book.specs.declared.Sizes.{Sizes}
 use Rattle.forms.specs.AlikeLaws.{Alike, alike-tables, alike-sizes}
-use Rattle.finder.specs.Finder.{cleared}
+use Rattle.work.specs.Work.{cleared}
 use Rattle.lists.specs.List.{Listed, refused, entries, listIn}
 use Rattle.lists.specs.ListLaws.{list-alike}
 use Rattle.judgement.specs.Judgement.{judgeRefusals, JudgedIn, Judges}

@@ -12,18 +12,20 @@ use Rattle.book.specs.Tables.{Tables, tablesOf}
 use Rattle.book.specs.TablesLaws.{Holds, InRange, in-range}
 use Rattle.book.specs.declared.Sizes.{Sizes}
 use Rattle.machine.specs.AdmissionLaws.{sound-all}
-use Rattle.machine.specs.Machine.{Reaches}
+use Rattle.machine.specs.Machine.{Terminals, Reaches}
 use Rattle.machine.specs.Run.{runs, soundPrefix}
 use Rattle.machine.specs.RunLaws.{sound-terminals, run-error}
 use Rattle.machine.specs.Stack.{RanTo}
 use Rattle.machine.specs.declared.Ending.{Ending}
 use Rattle.machine.specs.declared.Ending.the-variants.{Accepted, Error, Broken, Passed, Deep, Spinning}
+use Rattle.breaks.specs.BreakingLaws.{run-broken}
 use Rattle.walk.specs.Walk.{Walk, here, shifted, crossed}
 use Rattle.walk.specs.WalkLaws.{reaches-walk}
 use Rattle.layers.specs.CrossingLaws.{terminals-are, states-are}
 use Rattle.lists.specs.Entry.{sentence}
 use Rattle.lists.specs.EntryLaws.{Spelled, part-length}
 use Rattle.lists.specs.declared.Entry.{Entry}
+use Rattle.failing.specs.Failing.{FailsAt, errs, breaks}
 use Rattle.judgement.specs.Judgement.{runOf, isRight, stateOf}
 use Rattle.judgement.specs.Turns.{weighed}
 use Rattle.judgement.specs.declared.Verdict.{Verdict}
@@ -45,27 +47,29 @@ walk-state i h (crossed {q₁} {p} {q₃} r v e l g) = i .gotos q₁ _ q₃ g .2
 reached-state : {B : Tables} {w : List ℕ} {z s : ℕ} → InRange B → Reaches B w z s → s < B .states
 reached-state i r = walk-state i (i .start) (reaches-walk r .1)
 
-right-state : {d : Sizes} {cells bytes : List ℕ} {e : Entry} → Holds d cells → Spelled (d .t) bytes e
-    → isRight (length (sentence bytes e)) (runOf (tablesOf cells) bytes e) ≡ true → stateOf (runOf (tablesOf cells) bytes e) < d .s
-right-state {d} {cells} {bytes} {e} h s r = by-ending (runOf (tablesOf cells) bytes e) refl r
+-- what makes an entry right shows that its pair fails
+pub right-fails : {d : Sizes} {cells bytes : List ℕ} {e : Entry} → Holds d cells → Spelled (d .t) bytes e
+    → isRight (length (sentence bytes e)) (runOf (tablesOf cells) bytes e) ≡ true → FailsAt (tablesOf cells) (stateOf (runOf (tablesOf cells) bytes e)) (e .lookahead) (sentence bytes e)
+right-fails {d} {cells} {bytes} {e} h s r = by-ending (runOf (tablesOf cells) bytes e) refl r
   where
-    terminals : soundPrefix (tablesOf cells .terminals) (sentence bytes e) ≡ length (sentence bytes e)
-    terminals = rw (terminals-are h) (spelled-sound s)
+    terminals : Terminals (tablesOf cells) (sentence bytes e)
+    terminals = sound-terminals (tablesOf cells) (sentence bytes e) (rw (terminals-are h) (spelled-sound s))
 
-    by-ending : (x : Ending) → runOf (tablesOf cells) bytes e ≡ x → isRight (length (sentence bytes e)) x ≡ true → stateOf x < d .s
-    by-ending (Error stop) f g =
-        rw (states-are h) at
-        (reached-state (in-range h)
-        (run-error (tablesOf cells) (sentence bytes e) (e .lookahead) stop f (eqb-true _ _ g) (sound-terminals (tablesOf cells) (sentence bytes e) terminals) .0))
+    by-ending : (x : Ending) → runOf (tablesOf cells) bytes e ≡ x → isRight (length (sentence bytes e)) x ≡ true → FailsAt (tablesOf cells) (stateOf x) (e .lookahead) (sentence bytes e)
+    by-ending (Error stop) f g = let (r, a) = run-error (tablesOf cells) (sentence bytes e) (e .lookahead) stop f (eqb-true _ _ g) terminals in errs r a
+    by-ending (Broken stop) f g = breaks (run-broken (tablesOf cells) (sentence bytes e) (e .lookahead) stop f (eqb-true _ _ g) terminals)
     by-ending (Accepted stop) f g = absurd (false≢true g)
-    by-ending (Broken stop) f g = absurd (false≢true g)
     by-ending (Passed stop) f g = absurd (false≢true g)
     by-ending (Deep stop) f g = absurd (false≢true g)
     by-ending (Spinning stop) f g = absurd (false≢true g)
 
+fails-reaches : {B : Tables} {s z : ℕ} {w : List ℕ} → FailsAt B s z w → Reaches B w z s
+fails-reaches (errs r e) = r
+fails-reaches (breaks b) = record { terminals = b .terminals; below = b .below; run = b .run }
+
 pub entry-right : {d : Sizes} {cells bytes : List ℕ} {e : Entry} → Holds d cells → Spelled (d .t) bytes e
     → isRight (length (sentence bytes e)) (runOf (tablesOf cells) bytes e) ≡ true → stateOf (runOf (tablesOf cells) bytes e) < 128
-entry-right h s r = omega (arith, right-state h s r, h .small .states)
+entry-right h s r = omega (arith, reached-state (in-range h) (fails-reaches (right-fails h s r)), states-are h, h .small .states)
 
 -- ---- what a run leaves
 ran-after : {r : Ending} {out : List ℕ} (lent : List ℕ) (o : Ending × List ℕ) → RanTo o lent r out → length out ≡ length lent → 1024 ≤ length lent

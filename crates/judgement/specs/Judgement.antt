@@ -4,7 +4,8 @@ use Rattle.number.specs.Lent.{over}
 use Rattle.book.specs.{Book.ofCells, Book.checked, Call.admits, Call.Concludes, Range.among, Tables.Tables, Tables.tablesOf, declared.Sizes.Sizes}
 use Rattle.machine.specs.{Run.runs, Run.stopOf, declared.Ending.Ending}
 use Rattle.lists.specs.{Entry.sentence, List.Listed, List.entries, List.refused, List.listIn, declared.Entry.Entry}
-use Rattle.finder.specs.{Failing.FailingPair, Failing.Decides, Finder.workCells, Finder.cleared}
+use Rattle.work.specs.Work.{workCells, cleared}
+use Rattle.failing.specs.Failing.{FailingPair, Decides}
 use Rattle.judgement.specs.declared.Judgement.{Judgement}
 
 -- ---- an entry
@@ -12,11 +13,12 @@ use Rattle.judgement.specs.declared.Judgement.{Judgement}
 abbrev pub runOf : Tables → List ℕ → Entry → Ending
 runOf B bytes e = runs B (e .lookahead) (sentence bytes e) 0 (0 ∷ []) .0
 
--- 'wrong if the entry's run does not end as error with its whole sentence in': so many symbols
+-- 'wrong if the entry's run does not end as error with its whole sentence in': so many symbols; by request 5 'an ending of broken counts as a
+-- failure in the list's judgement'
 abbrev pub isRight : ℕ → Ending → Bool
 isRight len (Ending.Error stop) = eqb (stop .taken) len
 isRight len (Ending.Accepted stop) = false
-isRight len (Ending.Broken stop) = false
+isRight len (Ending.Broken stop) = eqb (stop .taken) len
 isRight len (Ending.Passed stop) = false
 isRight len (Ending.Deep stop) = false
 isRight len (Ending.Spinning stop) = false

@@ -21,8 +21,8 @@ use Rattle.machine.specs.declared.Stop.{Stop}
 use Rattle.lists.specs.Entry.{sentence}
 use Rattle.lists.specs.List.{listIn}
 use Rattle.lists.specs.declared.Entry.{Entry}
-use Rattle.finder.specs.FailingLaws.{decides-one}
-use Rattle.finder.specs.Finder.{cleared}
+use Rattle.failing.specs.FailingLaws.{decides-one}
+use Rattle.work.specs.Work.{cleared}
 use Rattle.judgement.specs.CoverageLaws.{lowest-same}
 use Rattle.judgement.specs.Judgement.{runOf, isRight, stateOf, Course, fault, clean, course, uncovered, Judged, faulty, faultless, judgeRefusals, JudgedIn, Judges}
 use Rattle.judgement.specs.declared.Judgement.{Judgement}
@@ -53,10 +53,10 @@ one-answer cells bytes work stack end other =
     other
     (λ d. judged-one cells bytes)
 
--- ---- a state has an entry where a run, within its limits, ends in it as error with its whole sentence in
+-- ---- a state has an entry where a run, within its limits, ends in it as error or as broken with its whole sentence in
 pub record Ends (B : Tables) (bytes : List ℕ) (s : ℕ) (e : Entry) : Type 0 where
   pub stop : Stop
-  pub error : runOf B bytes e ≡ Error stop
+  pub ending : (runOf B bytes e ≡ Error stop) ⊎ (runOf B bytes e ≡ Broken stop)
   pub whole : stop .taken ≡ length (sentence bytes e)
   pub state : stop .state ≡ s
 
@@ -65,9 +65,9 @@ pub data Has (B : Tables) (bytes : List ℕ) (s : ℕ) : List Entry → Type 0 w
   later : {e : Entry} {es : List Entry} → Has B bytes s es → Has B bytes s (e ∷ es)
 
 right-ends : (B : Tables) (bytes : List ℕ) (e : Entry) (x : Ending) → runOf B bytes e ≡ x → isRight (length (sentence bytes e)) x ≡ true → Ends B bytes (stateOf x) e
-right-ends B bytes e (Error stop) f r = record { stop = stop; error = f; whole = eqb-true _ _ r; state = refl }
+right-ends B bytes e (Error stop) f r = record { stop = stop; ending = inl f; whole = eqb-true _ _ r; state = refl }
 right-ends B bytes e (Accepted stop) f r = absurd (false≢true r)
-right-ends B bytes e (Broken stop) f r = absurd (false≢true r)
+right-ends B bytes e (Broken stop) f r = record { stop = stop; ending = inr f; whole = eqb-true _ _ r; state = refl }
 right-ends B bytes e (Passed stop) f r = absurd (false≢true r)
 right-ends B bytes e (Deep stop) f r = absurd (false≢true r)
 right-ends B bytes e (Spinning stop) f r = absurd (false≢true r)

@@ -8,8 +8,8 @@ ghost use Rattle.lists.specs.List.{entries};
 ghost use Rattle.judgement.specs.Judgement.{judgeRefusals};
 use book::Checked;
 use book::Sizes;
-use finder::work_cells;
 use machine::DEPTH;
+use work::work_cells;
 
 // The refusals for any list that is not refused.
 pub fn admit_room(d: Sizes, work: usize, stack: usize) -> Checked

@@ -11,23 +11,21 @@ ghost use Rattle.judgement.specs.Judgement.{lowestState};
 use crate::Judgement;
 use book::Sizes;
 use crossings::crossings_with;
-use distances::from_start;
-use finder::mask_of;
-use finder::pair_fails;
+use failing::failures;
+use failing::pair_fails;
 use layers::open_rows;
 use walk::UNREACHED;
 
 // Whether the state has a failing pair.
-fn fails(cells: &[u16], d: Sizes, dist: &[u16; 4096], q: usize) -> bool
+fn fails(cells: &[u16], d: Sizes, dist: &[u16; 4096], broken: &[u16; 4096], q: usize) -> bool
     requires { ⌜ Holds d (now cells) ⌝ }
     requires { ⌜ q < d .s ⌝ }
-    ensures { λ r. ⌜ r ≡ stateFails (now (cells .entry)) (now (dist .entry)) (d .t) q ⌝ }
+    ensures { λ r. ⌜ r ≡ stateFails (now (cells .entry)) (now (dist .entry)) (now (broken .entry)) (d .t) q ⌝ }
 {
     let t = d.t;
-    let mask = mask_of(dist, t, q);
     let mut z: usize = 0;
     while z < t {
-        if pair_fails(cells, d, mask, q, z) {
+        if pair_fails(cells, d, dist, broken, q, z) {
             return true;
         }
         z += 1;
@@ -36,25 +34,38 @@ fn fails(cells: &[u16], d: Sizes, dist: &[u16; 4096], q: usize) -> bool
 }
 
 // Whether the state has a failing pair and no entry.
-fn lacks(cells: &[u16], d: Sizes, dist: &[u16; 4096], flags: &[u8; 128], q: usize) -> bool
+fn lacks(
+    cells: &[u16],
+    d: Sizes,
+    dist: &[u16; 4096],
+    broken: &[u16; 4096],
+    flags: &[u8; 128],
+    q: usize,
+) -> bool
     requires { ⌜ Holds d (now cells) ⌝ }
     requires { ⌜ q < d .s ⌝ }
-    ensures { λ r. ⌜ r ≡ lacksIn (stateFails (now (cells .entry)) (now (dist .entry)) (d .t)) (now (flags .entry)) q ⌝ }
+    ensures { λ r. ⌜ r ≡ lacksIn (stateFails (now (cells .entry)) (now (dist .entry)) (now (broken .entry)) (d .t)) (now (flags .entry)) q ⌝ }
 {
     if flags[q] != 0 {
         return false;
     }
-    fails(cells, d, dist, q)
+    fails(cells, d, dist, broken, q)
 }
 
-fn lowest_lacking(cells: &[u16], d: Sizes, dist: &[u16; 4096], flags: &[u8; 128]) -> Judgement
+fn lowest_lacking(
+    cells: &[u16],
+    d: Sizes,
+    dist: &[u16; 4096],
+    broken: &[u16; 4096],
+    flags: &[u8; 128],
+) -> Judgement
     requires { ⌜ Holds d (now cells) ⌝ }
-    ensures { λ r. ⌜ r ≡ lowestState (lacksIn (stateFails (now (cells .entry)) (now (dist .entry)) (d .t)) (now (flags .entry))) (d .s) 0 ⌝ }
+    ensures { λ r. ⌜ r ≡ lowestState (lacksIn (stateFails (now (cells .entry)) (now (dist .entry)) (now (broken .entry)) (d .t)) (now (flags .entry))) (d .s) 0 ⌝ }
 {
     let states = d.s;
     let mut q: usize = 0;
     while q < states {
-        if lacks(cells, d, dist, flags, q) {
+        if lacks(cells, d, dist, broken, flags, q) {
             return Judgement::Uncovered(q as u16);
         }
         q += 1;
@@ -72,8 +83,8 @@ pub fn cover(cells: &[u16], d: Sizes, flags: &[u8; 128], work: &mut [u16]) -> Ju
     let mut rows = [0u8; 4096];
     open_rows(cells, d, &mut rows);
     let mut dist = [UNREACHED; 4096];
-    let mut next = [UNREACHED; 4096];
-    crossings_with(cells, d, work, &rows, &mut dist, &mut next);
-    from_start(cells, d, work, &rows, &mut dist);
-    lowest_lacking(cells, d, &dist, flags)
+    let mut broken = [UNREACHED; 4096];
+    crossings_with(cells, d, work, &rows, &mut dist, &mut broken);
+    failures(cells, d, work, &rows, &mut dist, &mut broken);
+    lowest_lacking(cells, d, &dist, &broken, flags)
 }

@@ -20,14 +20,14 @@ use machine::Ending;
 use machine::drive;
 use machine::stop_of;
 
-// Whether a run ended as error with a whole sentence in, which has as many symbols as len says.
+// Whether a run ended as error or as broken with a whole sentence in, which has as many symbols as len says.
 fn is_right(ending: Ending, len: usize) -> bool
     ensures { λ r. ⌜ r ≡ isRight len ending ⌝ }
 {
     match ending {
         Ending::Error(stop) => stop.taken == len,
         Ending::Accepted(_) => false,
-        Ending::Broken(_) => false,
+        Ending::Broken(stop) => stop.taken == len,
         Ending::Passed(_) => false,
         Ending::Deep(_) => false,
         Ending::Spinning(_) => false,

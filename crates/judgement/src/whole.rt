@@ -17,8 +17,6 @@ use crate::coverage::cover;
 use crate::entries::judge_entries;
 use book::Checked;
 use book::Sizes;
-use finder::clear;
-use finder::work_cells;
 use forms::PLAIN;
 use forms::plain_cells;
 use forms::plain_sizes;
@@ -26,6 +24,8 @@ use lists::Listing;
 use lists::Rest;
 use lists::check_list;
 use machine::DEPTH;
+use work::clear;
+use work::work_cells;
 
 // The judgement of the entries that stand from an offset on, against plain cells.
 fn judge_plain(

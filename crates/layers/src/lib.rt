@@ -10,6 +10,7 @@ pub use opening::open_rows;
 pub use row::begin;
 pub use row::level;
 pub use starts::crossing_row;
+pub use states::add_state;
 pub use states::all_on;
 pub use states::count_on;
 pub use states::state_on;

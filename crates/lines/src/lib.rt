@@ -11,8 +11,8 @@ pub use line::put_refusal;
 pub use opening::prepare;
 pub use state::put_state;
 
-// The header's counts: error actions and failing pairs.
+// The header's counts: lines and failing pairs.
 pub struct Header {
-    pub errors: usize,
+    pub lines: usize,
     pub failing: usize,
 }

@@ -8,11 +8,11 @@ ghost use Rattle.lines.specs.Prepare.{listingRefusals, Prepared};
 use book::Checked;
 use book::Sizes;
 use crossings::crossings;
-use finder::work_cells;
 use forms::PLAIN;
 use forms::plain_cells;
 use forms::plain_sizes;
 use layers::open_rows;
+use work::work_cells;
 
 fn admit(d: Sizes, work: usize) -> Checked
     requires { ⌜ Small d ⌝ }

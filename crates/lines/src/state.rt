@@ -1,4 +1,5 @@
-// The lines of a state: one for each of its error actions, in the order of the terminals.
+// The lines of a state: one for each of its error actions and for each of its reductions that break, in the order of the terminals.
+ghost use mathlib.Core.Path.{_≡_};
 ghost use Prim.Native.Nat.{_+_, _≤_, _<_};
 ghost use lib.ListN.{length};
 ghost use Rattle.book.specs.Order.{placeIn, Arranged};
@@ -6,18 +7,33 @@ ghost use Rattle.book.specs.Tables.{tablesOf};
 ghost use Rattle.book.specs.TablesLaws.{Holds};
 ghost use Rattle.walk.specs.Scale.{plain};
 ghost use Rattle.crossings.specs.Crossings.{CrossingTable};
+ghost use Rattle.lengths.specs.Lengths.{BreakTable};
 ghost use Rattle.lines.specs.Line.{StateListed};
-ghost use Rattle.lines.specs.Parts.{ActionListed};
+ghost use Rattle.lines.specs.Parts.{listedIn, ActionListed};
 use crate::line::put_pair;
 use book::Sizes;
-use finder::is_error;
+use failing::has_cost;
+use failing::is_error;
 
-// The line of (s, z), if its action is error.
+// Whether (s, z) has a line: its action is error, or a reduction that breaks.
+pub fn listed(cells: &[u16], d: Sizes, broken: &[u16; 4096], s: usize, z: usize) -> bool
+    requires { ⌜ Holds d (now cells) ⌝ }
+    requires { ⌜ (s < d .s) × (z < d .t) ⌝ }
+    ensures { λ r. ⌜ r ≡ listedIn (now (cells .entry)) (now (broken .entry)) s z ⌝ }
+{
+    if is_error(cells, d, s, z) {
+        return true;
+    }
+    has_cost(broken, s, z)
+}
+
+// The line of (s, z), if it has one.
 fn put_action(
     cells: &[u16],
     d: Sizes,
     table: &[u16],
     order: &[u8; 32],
+    broken: &[u16; 4096],
     s: usize,
     z: usize,
     sentence: &mut [u8],
@@ -27,11 +43,12 @@ fn put_action(
     requires { ⌜ Holds d (now cells) ⌝ }
     requires { ⌜ CrossingTable plain d (now cells) (now table) ⌝ }
     requires { ⌜ Arranged (d .t) (now order) ⌝ }
+    requires { ⌜ BreakTable plain d (now cells) (now broken) ⌝ }
     requires { ⌜ (s < d .s) × (z < d .t) × (1000 ≤ length (now sentence)) × (at + 4096 ≤ length (now out)) ⌝ }
     ensures { λ r. ⌜ ActionListed (placeIn (now (order .entry))) (tablesOf (now (cells .entry))) s z (now (out .entry)) at (now (out .exit)) r ⌝ }
     ensures { λ r. ⌜ r ≤ at + 4096 ⌝ }
 {
-    if !is_error(cells, d, s, z) {
+    if !listed(cells, d, broken, s, z) {
         return at;
     }
     put_pair(cells, d, table, order, s, z, sentence, out, at)
@@ -43,6 +60,7 @@ pub fn put_state(
     d: Sizes,
     table: &[u16],
     order: &[u8; 32],
+    broken: &[u16; 4096],
     s: usize,
     out: &mut [u8],
     at: usize,
@@ -50,6 +68,7 @@ pub fn put_state(
     requires { ⌜ Holds d (now cells) ⌝ }
     requires { ⌜ CrossingTable plain d (now cells) (now table) ⌝ }
     requires { ⌜ Arranged (d .t) (now order) ⌝ }
+    requires { ⌜ BreakTable plain d (now cells) (now broken) ⌝ }
     requires { ⌜ (s < d .s) × (at + 131072 ≤ length (now out)) ⌝ }
     ensures { λ r. ⌜ StateListed (placeIn (now (order .entry))) (tablesOf (now (cells .entry))) s (now (out .entry)) at (now (out .exit)) r ⌝ }
     ensures { λ r. ⌜ r ≤ at + 131072 ⌝ }
@@ -59,7 +78,18 @@ pub fn put_state(
     let mut next = at;
     let mut z: usize = 0;
     while z < t {
-        next = put_action(cells, d, table, order, s, z, &mut sentence, out, next);
+        next = put_action(
+            cells,
+            d,
+            table,
+            order,
+            broken,
+            s,
+            z,
+            &mut sentence,
+            out,
+            next,
+        );
         z += 1;
     }
     next

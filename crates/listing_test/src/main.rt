@@ -1,8 +1,12 @@
-// Listings at and past the limits, of what is no book, and of an input that is longer than the program reads. In standard input stands
-// a book of 326 bytes, whose last state takes 1,024 symbols, and zeros after it up to 70,000 bytes.
+// Listings at and past the limits, of what is no book, of books in which reductions break, and of an input that is longer than the program
+// reads. In standard input stand a book of 326 bytes, whose last state takes 1,024 symbols, one of 253 bytes, in which a reduction breaks
+// after 1,000 symbols and another after 1,001, and zeros up to 70,000 bytes.
+mod breaks;
 mod ring;
 
 const BOOK: usize = 326;
+
+const NEXT: usize = 579;
 
 fn title(text: &[u8]) {
     io::write_all(1, text);
@@ -14,13 +18,20 @@ fn list(text: &[u8], bytes: &[u8]) {
     printing::print_listing(bytes);
 }
 
+// The books in standard input, each alone.
+fn books(bytes: &[u8]) {
+    if bytes.len() < NEXT {
+        return;
+    }
+    list(b"the book alone", &bytes[..BOOK]);
+    list(b"the book after it", &bytes[BOOK..NEXT]);
+}
+
 fn input() {
     let mut bytes = io::large_buffer();
     let n = io::read_full(0, &mut bytes);
     list(b"more than 65,536 bytes", &bytes[..n]);
-    if n >= BOOK {
-        list(b"the book alone", &bytes[..BOOK]);
-    }
+    books(&bytes[..n]);
 }
 
 fn main() {
@@ -39,5 +50,6 @@ fn main() {
     );
     list(b"cut off", b"\x01\x01\x00\x01\x00");
     list(b"nothing", b"");
+    breaks::list_all();
     input();
 }

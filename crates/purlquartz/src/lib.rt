@@ -17,6 +17,7 @@ pub use entries::purlquartz_entry;
 pub use entries::purlquartz_judge;
 pub use entries::purlquartz_next_entry;
 pub use pairs::purlquartz_find;
+pub use pairs::purlquartz_find_break;
 pub use pairs::purlquartz_map;
 pub use pairs::purlquartz_sets;
 pub use runs::purlquartz_run;

@@ -7,17 +7,17 @@ use Prim.Native.Nat.{ℕ, suc, _+_, _-_, _*_, _/_, _%_, _≤_, _<_}
 use native.Mathlib.Decide.{decLt, ℕ-discrete}
 use native.Mathlib.Nat.{le-refl, le-trans}
 use native.Mathlib.Omega.{arith}
-use lib.ListN.{length, getD, set}
+use lib.ListN.{length, getD, set, drop}
 use lib.Seq.{getD-set-same, getD-set-other}
 use Rattle.book.specs.Tables.{Tables}
 use Rattle.walk.specs.Scale.{Scale, unreached}
 use Rattle.walk.specs.CostLaws.{plus-mono}
-use Rattle.walk.specs.Claims.{Claims}
+use Rattle.walk.specs.Claims.{Claims, Completes}
 use Rattle.walk.specs.ClaimsLaws.{claimed-next}
 use Rattle.walk.specs.Sum.{plus}
 use Rattle.layers.specs.Layer.{entryIn}
 use Rattle.layers.specs.Step.{TableStep}
-use Rattle.waiting.specs.Completes.{Completes, Pops, Stands, top, falls, Event}
+use Rattle.waiting.specs.Completes.{Pops, Stands, top, falls, Event}
 use Rattle.waiting.specs.CompletesLaws.{part-within, event-stands, completes-stands-iff}
 use Rattle.waiting.specs.Waiting.{Narrow, rowOf, waitingIn, Expands}
 use Rattle.search.specs.Progress.{Progress, Settling}
@@ -50,9 +50,9 @@ module _ {σ : Scale} {B : Tables} {claim : Claims} {q a : ℕ} {st : List ℕ} 
   stands-depth (falls d s p e l j) = l
 
 -- the table is unreached everywhere, and the top was expanded into it
-module _ {σ : Scale} {B : Tables} {claim : Claims} (n : Narrow B) {G : ℕ → ℕ → ℕ} {q a r : ℕ} (st : List ℕ) {K T : ℕ → ℕ → ℕ} (hr : r < unreached σ) where
-  pub progress-start : ((row c : ℕ) → row < 1024 → c < 32 → K row c ≡ unreached σ) → r < plus σ 0 (G q a)
-      → TableStep σ (Expands σ B claim 0 q a 0 r) K T → Progress σ B claim G q st a r 0 T
+module _ {σ : Scale} {B : Tables} {claim : Claims} (n : Narrow B) {E : List ℕ → ℕ → ℕ → ℕ} {q a r : ℕ} (st : List ℕ) {K T : ℕ → ℕ → ℕ} (hr : r < unreached σ) where
+  pub progress-start : ((row c : ℕ) → row < 1024 → c < 32 → K row c ≡ unreached σ) → r < plus σ 0 (E st q a)
+      → TableStep σ (Expands σ B claim 0 q a 0 r) K T → Progress σ B claim E q st a r 0 T
   unfolding waitingIn
   progress-start none miss step = record {
     below = λ h s p l m. low h s p l;
@@ -65,8 +65,8 @@ module _ {σ : Scale} {B : Tables} {claim : Claims} (n : Narrow B) {G : ℕ → 
           let (ei, eg, eb, eu) = at-top h s in
           step .below (rowOf (i - 1 + k) X) c w (k, X, omega arith, pops-as eg eb eu refl p, l) (pops-row n p .2) (omega arith)
 
-      no-more : {i g b u : ℕ} → i ≤ 0 → Stands σ B claim q st a i g b u → r < plus σ u (G g b)
-      no-more h s = let (ei, eg, eb, eu) = at-top h s in rw (eg, eb, eu) miss
+      no-more : {i g b u : ℕ} → i ≤ 0 → Stands σ B claim q st a i g b u → r < plus σ u (E (drop (i - 1) st) g b)
+      no-more h s = let (ei, eg, eb, eu) = at-top h s in rw (ei, eg, eb, eu) miss
 
       kept : (d X c : ℕ) → X < 32 → c < 32 → d < 0 + 32 → (T (rowOf d X) c ≡ K (rowOf d X) c) ⊎ Expands σ B claim 0 q a 0 r (rowOf d X) c (T (rowOf d X) c)
           → (T (rowOf d X) c ≡ unreached σ) ⊎ (Event σ B claim q st a d X c (T (rowOf d X) c) × (T (rowOf d X) c ≤ r))
@@ -76,9 +76,9 @@ module _ {σ : Scale} {B : Tables} {claim : Claims} (n : Narrow B) {G : ℕ → 
           let (ed, eX) = row-one 0 d k X Y hX hY hk (omega arith) hd er in
           inr (record { index = 0; state = q; first = a; cost = 0; more = k; stands = top; pops = pops-as refl refl refl (sym eX) p; depth = omega arith }, l)
 
-module _ {σ : Scale} {B : Tables} {claim : Claims} {G : ℕ → ℕ → ℕ} {q a r j : ℕ} {st : List ℕ} {T : ℕ → ℕ → ℕ} where
+module _ {σ : Scale} {B : Tables} {claim : Claims} {E : List ℕ → ℕ → ℕ → ℕ} {q a r j : ℕ} {st : List ℕ} {T : ℕ → ℕ → ℕ} where
   -- nothing at this depth was followed yet
-  pub settling-none : {done : List ℕ} → ((k : ℕ) → k < B .nonterminals * 32 → getD done k 0 ≡ unreached σ) → Progress σ B claim G q st a r j T → Settling σ B claim G q st a r j T done
+  pub settling-none : {done : List ℕ} → ((k : ℕ) → k < B .nonterminals * 32 → getD done k 0 ≡ unreached σ) → Progress σ B claim E q st a r j T → Settling σ B claim E q st a r j T done
   unfolding entryIn
   settling-none {done} none p = record {
     progress = p;
@@ -90,15 +90,15 @@ module _ {σ : Scale} {B : Tables} {claim : Claims} {G : ℕ → ℕ → ℕ} {q
       at X c hX hc = none (X * 32 + c) (omega arith)
 
   -- at the end of the stack
-  pub progress-done : r < unreached σ → length st ≤ j → Progress σ B claim G q st a r j T → (v : ℕ) → Completes σ B claim G (q ∷ st) a v → v ≤ r → ⊥
+  pub progress-done : r < unreached σ → length st ≤ j → Progress σ B claim E q st a r j T → (v : ℕ) → Completes σ B claim E (q ∷ st) a v → v ≤ r → ⊥
   progress-done hr h p v c l = let (i, g, b, u, s, m) = completes-stands-iff hr .0 (v, c, l) in omega (arith, p .missed (le-trans (stands-depth s) h) s)
 
 -- one goto is followed, or is none
-module _ {σ : Scale} {B : Tables} {claim : Claims} {G : ℕ → ℕ → ℕ} {q a r j : ℕ} {st done : List ℕ} {T : ℕ → ℕ → ℕ} (X c v : ℕ) (s : Settling σ B claim G q st a r j T done)
+module _ {σ : Scale} {B : Tables} {claim : Claims} {E : List ℕ → ℕ → ℕ → ℕ} {q a r j : ℕ} {st done : List ℕ} {T : ℕ → ℕ → ℕ} (X c v : ℕ) (s : Settling σ B claim E q st a r j T done)
     (n : Narrow B) (hX : X < B .nonterminals) (hc : c < 32) (size : length done ≡ 1024) (most : entryIn done X c ≤ unreached σ) (ev : v ≡ waitingIn T j X c) (low : v < entryIn done X c) where
-  settling-set : {T′ : ℕ → ℕ → ℕ} → Progress σ B claim G q st a r j T′ → ((d Y z : ℕ) → z < 32 → waitingIn T′ d Y z ≤ waitingIn T d Y z)
+  settling-set : {T′ : ℕ → ℕ → ℕ} → Progress σ B claim E q st a r j T′ → ((d Y z : ℕ) → z < 32 → waitingIn T′ d Y z ≤ waitingIn T d Y z)
       → ((g k Y z w : ℕ) → B .goto (getD st j 0) X ≡ suc g → Pops σ B claim g c v k Y z w → w ≤ r → waitingIn T′ (j + k) Y z ≤ w)
-      → ((g : ℕ) → B .goto (getD st j 0) X ≡ suc g → r < plus σ v (G g c)) → Settling σ B claim G q st a r j T′ (set done (X * 32 + c) v)
+      → ((g : ℕ) → B .goto (getD st j 0) X ≡ suc g → r < plus σ v (E (drop j st) g c)) → Settling σ B claim E q st a r j T′ (set done (X * 32 + c) v)
   unfolding entryIn
   settling-set {T′} p fall new miss = record {
     progress = p;
@@ -120,7 +120,7 @@ module _ {σ : Scale} {B : Tables} {claim : Claims} {G : ℕ → ℕ → ℕ} {q
           le-trans (fall (j + k) Y z (pops-row n p .2)) (s .seen X′ c′ hX′ hc′ g (omega arith) (pops-as refl refl same refl p) l)
 
       refused : (X′ c′ : ℕ) {g : ℕ} → X′ < B .nonterminals → c′ < 32 → B .goto (getD st j 0) X′ ≡ suc g → getD (set done (X * 32 + c) v) (X′ * 32 + c′) 0 < unreached σ
-          → Dec (X′ * 32 + c′ ≡ X * 32 + c) → r < plus σ (getD (set done (X * 32 + c) v) (X′ * 32 + c′) 0) (G g c′)
+          → Dec (X′ * 32 + c′ ≡ X * 32 + c) → r < plus σ (getD (set done (X * 32 + c) v) (X′ * 32 + c′) 0) (E (drop j st) g c′)
       refused X′ c′ {g = g′} hX′ hc′ g u (yes e) =
           let eX : X′ ≡ X = omega arith in
           let ec : c′ ≡ c = omega arith in
@@ -130,7 +130,7 @@ module _ {σ : Scale} {B : Tables} {claim : Claims} {G : ℕ → ℕ → ℕ} {q
           rw same (s .refused X′ c′ hX′ hc′ g (omega arith))
 
   -- there is no such goto
-  pub settling-pass : B .goto (getD st j 0) X ≡ 0 → Settling σ B claim G q st a r j T (set done (X * 32 + c) v)
+  pub settling-pass : B .goto (getD st j 0) X ≡ 0 → Settling σ B claim E q st a r j T (set done (X * 32 + c) v)
   settling-pass none = settling-set (s .progress) (λ d Y z h. le-refl _) (λ g k Y z w e p l. absurd (omega arith)) (λ g e. absurd (omega arith))
 
   -- the goto is one that waits
@@ -140,8 +140,8 @@ module _ {σ : Scale} {B : Tables} {claim : Claims} {G : ℕ → ℕ → ℕ} {q
       (λ x. rw ev x)
       (s .progress .attained j X c (omega (arith, n .nonterminals)) hc (le-refl j) (omega arith))
 
-  pub settling-follow : {g : ℕ} {T′ : ℕ → ℕ → ℕ} → r < unreached σ → j < length st → B .goto (getD st j 0) X ≡ suc g → r < plus σ v (G g c)
-      → TableStep σ (Expands σ B claim j g c v r) T T′ → Settling σ B claim G q st a r j T′ (set done (X * 32 + c) v)
+  pub settling-follow : {g : ℕ} {T′ : ℕ → ℕ → ℕ} → r < unreached σ → j < length st → B .goto (getD st j 0) X ≡ suc g → r < plus σ v (E (drop j st) g c)
+      → TableStep σ (Expands σ B claim j g c v r) T T′ → Settling σ B claim E q st a r j T′ (set done (X * 32 + c) v)
   unfolding waitingIn
   settling-follow {g} {T′} hr hj there miss step = settling-set
       (record {
@@ -184,7 +184,7 @@ module _ {σ : Scale} {B : Tables} {claim : Claims} {G : ℕ → ℕ → ℕ} {q
           )
 
 -- every goto that waits at depth j was followed at its cost: on to the next depth, whose last row is that of depth j, cleared
-module _ {σ : Scale} {B : Tables} {claim : Claims} {G : ℕ → ℕ → ℕ} {q a r j : ℕ} {st done : List ℕ} {T : ℕ → ℕ → ℕ} (n : Narrow B) (hr : r < unreached σ) (s : Settling σ B claim G q st a r j T done)
+module _ {σ : Scale} {B : Tables} {claim : Claims} {E : List ℕ → ℕ → ℕ → ℕ} {q a r j : ℕ} {st done : List ℕ} {T : ℕ → ℕ → ℕ} (n : Narrow B) (hr : r < unreached σ) (s : Settling σ B claim E q st a r j T done)
     (quiet : (X c : ℕ) → X < B .nonterminals → c < B .terminals → entryIn done X c ≤ waitingIn T j X c) where
   followed : {g c w : ℕ} (X : ℕ) → c < B .terminals → B .goto (getD st j 0) X ≡ suc g → waitingIn T j X c ≤ w → entryIn done X c ≤ w
   followed {g} {c} X hc e h = let (x, y, z) = n .range .gotos (getD st j 0) X g e in le-trans (quiet X c y hc) h
@@ -212,24 +212,27 @@ module _ {σ : Scale} {B : Tables} {claim : Claims} {G : ℕ → ℕ → ℕ} {q
       covered-more X (falls d t o e lt g) (omega arith) (claimed-next (o .walk)) g (λ f. let same : j ≡ i - 1 + k = omega arith in rw same (covered t (omega arith) o near (omega arith))) p l m
 
   -- .. and none completes
-  refused : {i g b u : ℕ} → Stands σ B claim q st a i g b u → i ≤ suc j → r < plus σ u (G g b)
+  refused : {i g b u : ℕ} → Stands σ B claim q st a i g b u → i ≤ suc j → r < plus σ u (E (drop (i - 1) st) g b)
   refused top h = s .progress .missed (omega arith) top
-  refused (falls {i} {k} {X} {c} {w} {g′} d t o e lt g) h = go (decLt d j) (decLt r (plus σ w (G g′ c)))
+  refused (falls {i} {k} {X} {c} {w} {g′} d t o e lt g) h = go (decLt d j) (decLt r (plus σ w (E (drop (suc d - 1) st) g′ c)))
     where
-      go : Dec (d < j) → Dec (r < plus σ w (G g′ c)) → r < plus σ w (G g′ c)
+      go : Dec (d < j) → Dec (r < plus σ w (E (drop (suc d - 1) st) g′ c)) → r < plus σ w (E (drop (suc d - 1) st) g′ c)
       go (yes f) x = s .progress .missed f (falls d t o e lt g)
       go (no f) (yes x) = x
       go (no f) (no x) =
           let (hk, hX, hc) = pops-row n o in
           let same : d ≡ j = omega arith in
           let here : j ≡ i - 1 + k = omega arith in
-          let near = part-within σ w (G g′ c) r hr (omega arith) in
+          let last : suc d - 1 ≡ j = omega arith in
+          let low : plus σ w (E (drop (suc d - 1) st) g′ c) ≤ r = omega arith in
+          let within = rw last at low in
+          let near = part-within σ w (E (drop j st) g′ c) r hr within in
           let there : B .goto (getD st j 0) X ≡ suc g′ = rw same at g in
           let v = followed {w = w} X (claimed-next (o .walk)) there (rw here (covered t (omega arith) o near (omega arith))) in
-          absurd (omega (arith, s .refused X c (n .range .gotos (getD st j 0) X g′ there .1) hc there (omega arith), plus-mono σ v (le-refl (G g′ c))))
+          absurd (omega (arith, s .refused X c (n .range .gotos (getD st j 0) X g′ there .1) hc there (omega arith), plus-mono σ v (le-refl (E (drop j st) g′ c)), within))
 
   pub settling-done : {T′ : ℕ → ℕ → ℕ} → ((X c : ℕ) → X < 32 → c < 32 → T′ (rowOf j X) c ≡ unreached σ) → ((row c : ℕ) → c < 32 → ¬ (row / 32 ≡ j % 32) → T′ row c ≡ T row c)
-      → Progress σ B claim G q st a r (suc j) T′
+      → Progress σ B claim E q st a r (suc j) T′
   unfolding waitingIn
   settling-done {T′} gone rest = record {
     below = λ h t p l m. below h t p l m;

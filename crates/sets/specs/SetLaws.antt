@@ -14,6 +14,12 @@ use lib.Count.{ones, ones-cat}
 use Rattle.sets.specs.Set.{setOf, countOf}
 use Rattle.sets.specs.Bits.{member}
 
+-- tests that say the same of each other are the same
+pub both : (a b : Bool) → (a ≡ true → b ≡ true) → (b ≡ true → a ≡ true) → a ≡ b
+both true b f g = sym (f refl)
+both false true f g = g refl
+both false false f g = refl
+
 -- a member counts as one block of bits, above those below it
 one-of : (b : Bool) (p : ℕ) → cond b p 0 ≡ cond b 1 0 * p
 one-of true p = sym (one-mul p)

@@ -44,7 +44,7 @@ abbrev pub toldRan : Ran → List ℕ
 toldRan (Ran.Refused r) = toldRefusal r
 toldRan (Ran.Ended e) = toldEnded (kindOf e) (stopOf e)
 
--- 'For one pair the finder answers unreached, long or else a sentence', told by its length
+-- 'For one pair the finder answers unreached, long or else a sentence', told by its length; of a reduction that breaks none, long or else a sentence
 abbrev pub toldFound : Found → List ℕ
 toldFound (Found.Refused r) = toldRefusal r
 toldFound Found.Unreached = eight (1 ∷ [])

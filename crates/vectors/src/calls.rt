@@ -8,6 +8,7 @@
 //   to_form_2 n
 //   run z n             the bytes with lookahead z, and n stack cells
 //   find s z n m        one pair, n work cells and m bytes
+//   find_break s z n m  the same
 //   map n m             n work cells and m cells
 //   sets n m k          n work cells, m masks and k sizes
 //   check_list          the bytes as a list
@@ -26,6 +27,7 @@ use purlquartz::purlquartz_check;
 use purlquartz::purlquartz_check_list;
 use purlquartz::purlquartz_entry;
 use purlquartz::purlquartz_find;
+use purlquartz::purlquartz_find_break;
 use purlquartz::purlquartz_judge;
 use purlquartz::purlquartz_map;
 use purlquartz::purlquartz_next_entry;
@@ -158,22 +160,39 @@ fn run(args: &[u32], cells: &[u16], sentence: &[u8]) {
     run_in(cells, sentence, cell(args, 0), &mut stack[..n]);
 }
 
-fn find_in(cells: &[u16], state: u16, lookahead: u16, work: &mut [u16], buffer: &mut [u8]) {
+// The call for one pair that has this name.
+fn ask(
+    word: &[u8],
+    cells: &[u16],
+    s: u16,
+    z: u16,
+    work: &mut [u16],
+    buffer: &mut [u8],
+    answer: &mut [u64; 8],
+) {
+    if check::same(word, b"find_break") {
+        purlquartz_find_break(cells, s, z, work, buffer, answer);
+        return;
+    }
+    purlquartz_find(cells, s, z, work, buffer, answer);
+}
+
+fn find_in(word: &[u8], cells: &[u16], s: u16, z: u16, work: &mut [u16], buffer: &mut [u8]) {
     let mut answer = [0u64; 8];
-    purlquartz_find(cells, state, lookahead, work, buffer, &mut answer);
-    say::answer(b"find", &answer);
+    ask(word, cells, s, z, work, buffer, &mut answer);
+    say::answer(word, &answer);
     say::cells(work);
     say::bytes(buffer);
 }
 
-fn find(args: &[u32], cells: &[u16]) {
+fn find(word: &[u8], args: &[u32], cells: &[u16]) {
     let mut work = free_work();
     let mut buffer = free_bytes();
     let s = cell(args, 0);
     let z = cell(args, 1);
     let n = room(args, 2, WORK);
     let m = room(args, 3, BYTES);
-    find_in(cells, s, z, &mut work[..n], &mut buffer[..m]);
+    find_in(word, cells, s, z, &mut work[..n], &mut buffer[..m]);
 }
 
 fn map_in(cells: &[u16], work: &mut [u16], map: &mut [u16]) {
@@ -277,7 +296,11 @@ fn on_machine(word: &[u8], args: &[u32], cells: &[u16], sentence: &[u8]) -> bool
         return true;
     }
     if check::same(word, b"find") {
-        find(args, cells);
+        find(word, args, cells);
+        return true;
+    }
+    if check::same(word, b"find_break") {
+        find(word, args, cells);
         return true;
     }
     if check::same(word, b"map") {

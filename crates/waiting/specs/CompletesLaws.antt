@@ -19,9 +19,9 @@ use Rattle.walk.specs.Scale.{Scale, unreached, cap}
 use Rattle.walk.specs.Cost.{cost, Attained}
 use Rattle.walk.specs.Sum.{plus}
 use Rattle.walk.specs.CostLaws.{plus-mono, plus-assoc, plus-bounded, plus-near, plus-far-left, plus-far-right, plus-zero, zero-plus, attained-plus}
-use Rattle.walk.specs.Claims.{Claims, Claimed, ClaimedDescends, arriving, popping, Witnessed}
+use Rattle.walk.specs.Claims.{Claims, Claimed, ClaimedDescends, arriving, popping, Completes, Witnessed}
 use Rattle.walk.specs.ClaimsLaws.{claimed-bounded, witnessed-above}
-use Rattle.waiting.specs.Completes.{Completes, Stands, top, falls, Standing, Event, Comes}
+use Rattle.waiting.specs.Completes.{Stands, top, falls, Standing, Event, Comes}
 
 -- no part of a sum below unreached is unreached
 pub near-right : (σ : Scale) (x y : ℕ) → plus σ x y < unreached σ → y < unreached σ
@@ -133,9 +133,9 @@ module _ {σ : Scale} {B : Tables} {claim : Claims} where
       λ s. let near = near-right σ (s .cost) (s .rest) (omega (arith, s .within)) in (plus σ (s .cost) (s .rest), stands-after (s .stands) (arriving (s .over)) (omega arith), s .within),
     )
 
-  -- for a table: where the cost so far and the cost to go are within the bound
-  pub completes-stands-iff : {G : ℕ → ℕ → ℕ} {r q a : ℕ} {st : List ℕ} → r < unreached σ
-      → ((v : ℕ) × Completes σ B claim G (q ∷ st) a v × (v ≤ r)) ↔ ((i g b u : ℕ) × Stands σ B claim q st a i g b u × (plus σ u (G g b) ≤ r))
+  -- for costs to go: where the cost so far and the cost to go are within the bound
+  pub completes-stands-iff : {E : List ℕ → ℕ → ℕ → ℕ} {r q a : ℕ} {st : List ℕ} → r < unreached σ
+      → ((v : ℕ) × Completes σ B claim E (q ∷ st) a v × (v ≤ r)) ↔ ((i g b u : ℕ) × Stands σ B claim q st a i g b u × (plus σ u (E (drop (i - 1) st) g b) ≤ r))
   completes-stands-iff h = (
     λ x. let s = descends-stands-iff h .0 x in (s .index, s .state, s .first, s .cost, s .stands, rw (s .over) at (s .within)),
     λ (i, g, b, u, s, l). descends-stands-iff h .1 (record { index = i; state = g; first = b; cost = u; rest = _; pushed = 0; stands = s; over = refl; within = l }),

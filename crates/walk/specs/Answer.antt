@@ -1,5 +1,5 @@
 -- What the finder answers for one pair. `Shortest.antt` has it by lengths, and a law says that this is the same. Assumes nothing.
-use Rattle.number.specs.Words.{List, _≢_, ℕ, _≤_, _<_}
+use Rattle.number.specs.Words.{Bool, true, false, List, _≢_, ℕ, _≤_, _<_}
 use Rattle.book.specs.Tables.{Tables}
 use Rattle.machine.specs.Machine.{Reaches}
 use Rattle.walk.specs.{Scale.Scale, Cost.cost, Order.Better, Breaks.Breaks}
@@ -23,3 +23,11 @@ Answer σ rank B s z = Best σ rank (λ w. Reaches B w z s)
 -- the reduction breaks there; Unreached is none
 abbrev pub AnswerBreak : Scale → (ℕ → ℕ) → Tables → ℕ → ℕ → Outcome → Type 0
 AnswerBreak σ rank B s z = Best σ rank (λ w. Breaks B w z s)
+
+-- the one or the other: of the words that reach the pair, or of those with which its reduction breaks
+abbrev pub WordsOf : Bool → Tables → ℕ → ℕ → List ℕ → Type 0
+WordsOf false B s z w = Reaches B w z s
+WordsOf true B s z w = Breaks B w z s
+
+abbrev pub AnswerAs : Bool → Scale → (ℕ → ℕ) → Tables → ℕ → ℕ → Outcome → Type 0
+AnswerAs breaks σ rank B s z = Best σ rank (WordsOf breaks B s z)

@@ -213,14 +213,25 @@ module _ {σ : Scale} {B : Tables} {claim : Claims} {q a : ℕ} where
       up o (inl e) = inl (o .sum ∙ plus-far-right σ _ _ (omega (arith, o .done)))
       up o (inr k) = inr (onward (o .after) (o .walk) (rw (o .done) k) (o .sum))
 
--- so a table of the least costs to go to the goals serves up to every bound below unreached
+-- the least costs of ends serve up to every bound below unreached
+pub ends-serve : {σ : Scale} {B : Tables} {E : List ℕ → ℕ → ℕ → ℕ} {K : ℕ → List ℕ → ℕ → ℕ → ℕ → Type 0} {r : ℕ} → r < unreached σ
+    → ((q : ℕ) (st : List ℕ) (a : ℕ) → q < B .states → a < B .terminals → Least σ (λ v. (n : ℕ) × K q st a v n) (E st q a)) → Serves B r (λ q st a v n. v ≡ E st q a) K
+ends-serve {E} near least = record {
+  lower = λ {q} {a} {v} {n} {st} hq ha h k. (E st q a, 0, refl, least q st a hq ha .below v (n, k));
+  within = λ {q} {a} {v} {n} {st} hq ha h e. ⊎-elim (λ u. absurd (omega (arith, u))) (λ k. rw e k) (least q st a hq ha .attained);
+}
+
+-- so those of a table to go to the goals
 pub least-serves : {σ : Scale} {B : Tables} {claim : Claims} {G : ℕ → ℕ → ℕ} {Goal : ℕ → ℕ → Type 0} {r : ℕ} → r < unreached σ
     → ((q a : ℕ) → q < B .states → a < B .terminals → Least σ (Onward σ B claim Goal q a) (G q a))
     → Serves B r (λ q st a v n. v ≡ G q a) (λ q st a v n. (s z : ℕ) × Goal s z × Claimed σ B claim q a v z n s)
-least-serves {σ} {B} {claim} {G} {Goal} {r} near least = record {
-  lower = λ {q} {a} {v} {n} hq ha h (s, z, j, c). (G q a, 0, refl, least q a hq ha .below v (onward-goal j c));
-  within = λ {q} {a} {v} hq ha h e. ⊎-elim (λ u. absurd (omega (arith, u))) (λ o. onward-claimed (rw (← e) at o)) (least q a hq ha .attained);
-}
+least-serves {σ} {B} {claim} {G} {Goal} near least = ends-serve {E = λ st. G} near goals
+  where
+    goals : (q : ℕ) (st : List ℕ) (a : ℕ) → q < B .states → a < B .terminals → Least σ (λ v. (n : ℕ) × ((s z : ℕ) × Goal s z × Claimed σ B claim q a v z n s)) (G q a)
+    goals q st a hq ha = record {
+      below = λ v (n, (s, z, j, c)). least q a hq ha .below v (onward-goal j c);
+      attained = ⊎-map (λ u. u) (λ o. onward-claimed o) (least q a hq ha .attained);
+    }
 
 module _ {σ : Scale} {B : Tables} {claim : Claims} (i : InRange B) (c : Closed σ B claim) where
   -- no crossing costs less than its claim
@@ -252,21 +263,22 @@ module _ {σ : Scale} {B : Tables} {claim : Claims} (i : InRange B) (c : Closed 
     start-exact h l = matches-exact (start-matches h) l
 
     -- (vi) those to some pair and on, where what is claimed from there stands for words
-    pub onward-matches : {K : ℕ → ℕ → ℕ → Type 0} {P : ℕ → ℕ → List ℕ → Type 0} {q a : ℕ} → q < B .states
-        → ((s z : ℕ) → s < B .states → z < B .terminals → Matches σ (K s z) (P s z)) → Matches σ (OnwardTo σ B claim K q a) (WalksTo B P q a)
-    onward-matches {K} {P} {q} {a} hq f = record {
+    pub walks-to-matches : {K : ℕ → ℕ → ℕ → Type 0} {P : ℕ → ℕ → List ℕ → Type 0} {q a : ℕ} → ((v n s z : ℕ) → Claimed σ B claim q a v z n s → Matches σ (K s z) (P s z))
+        → Matches σ (OnwardTo σ B claim K q a) (WalksTo B P q a)
+    walks-to-matches at = record {
       below = λ w x.
           let (u, r, j) = closed-below i c (x .terminal) (x .walk) in
-          let (y, m, l) = at r .below (x .rest) (x .done) in
+          let (y, m, l) = at u (x .count) (x .state) (x .next) r .below (x .rest) (x .done) in
           (plus σ u y, onward y r m refl, rw (x .whole) (plus-cost-le σ (x .front) (x .rest) j l));
       above = λ v o. rw (o .sum) (attained-plus σ
           (λ u y r p. record { count = o .count; state = o .state; next = o .next; front = u; rest = y; walk = r; terminal = claimed-next (o .walk); done = p; whole = refl })
           (witnessed-above k (o .walk))
-          (at (o .walk) .above (o .after) (o .done)));
+          (at (o .before) (o .count) (o .state) (o .next) (o .walk) .above (o .after) (o .done)));
     }
-      where
-        at : {v n s z : ℕ} → Claimed σ B claim q a v z n s → Matches σ (K s z) (P s z)
-        at {s} {z} r = f s z (claimed-state i hq r) (claimed-next r)
+
+    pub onward-matches : {K : ℕ → ℕ → ℕ → Type 0} {P : ℕ → ℕ → List ℕ → Type 0} {q a : ℕ} → q < B .states
+        → ((s z : ℕ) → s < B .states → z < B .terminals → Matches σ (K s z) (P s z)) → Matches σ (OnwardTo σ B claim K q a) (WalksTo B P q a)
+    onward-matches hq f = walks-to-matches (λ v n s z r. f s z (claimed-state i hq r) (claimed-next r))
 
     -- (vii) what is claimed from a stack, where the ends match
     pub descends-matches : {K : ℕ → List ℕ → ℕ → ℕ → ℕ → Type 0} {E : ℕ → List ℕ → ℕ → List ℕ → ℕ → Type 0} {a : ℕ} {st : List ℕ}

@@ -105,6 +105,10 @@ module _ {B : Tables} where
   chain-walk base = here
   chain-walk (push c r) = rw (← add-one) (walk-append (chain-walk c) r)
 
+  pub chain-append : {q a b z n q₁ m q₂ : ℕ} {w v st st₁ st₂ : List ℕ} → Chain B q st a w b n q₁ st₁ → Chain B q₁ st₁ b v z m q₂ st₂ → Chain B q st a (w ++ v) z (n + m) q₂ st₂
+  chain-append c base = rw (append-nil, add-zero) c
+  chain-append c (push d r) = rw (← append-assoc, add-suc) (push (chain-append c d) r)
+
   -- it is run so, and n states lie above the first stack
   pub chain-runs : {q a z n q′ : ℕ} {w st st′ : List ℕ} → Chain B q st a w z n q′ st′ → (u : List ℕ) → Steps B (q ∷ st) (w ++ (z ∷ u)) (q′ ∷ st′) (z ∷ u)
   chain-runs base u = done
@@ -139,10 +143,10 @@ module _ {B : Tables} where
     descends-map f (arrives {q} {a} {n} {st} {w} x) = arrives (f q st a w n x)
     descends-map f (pops k r e l d g c) = pops k r e l d g (descends-map f c)
 
-  -- an end of one kind or another
+  -- an end of one kind or another, however many states it pushes
   pub descends-some : {I : Type 0} {E : ℕ → List ℕ → ℕ → List ℕ → ℕ → Type 0} {F : I → ℕ → List ℕ → ℕ → List ℕ → ℕ → Type 0} {st w : List ℕ} {a : ℕ}
-      → ((q : ℕ) (st : List ℕ) (a : ℕ) (w : List ℕ) (n : ℕ) → E q st a w n → (i : I) × F i q st a w n) → Descends B E st a w → (i : I) × Descends B (F i) st a w
-  descends-some f (arrives {q} {a} {n} {st} {w} x) = let (i, y) = f q st a w n x in (i, arrives y)
+      → ((q : ℕ) (st : List ℕ) (a : ℕ) (w : List ℕ) (n : ℕ) → E q st a w n → (i : I) × (m : ℕ) × F i q st a w m) → Descends B E st a w → (i : I) × Descends B (F i) st a w
+  descends-some f (arrives {q} {a} {n} {st} {w} x) = let (i, m, y) = f q st a w n x in (i, arrives y)
   descends-some f (pops k r e l d g c) = let (i, y) = descends-some f c in (i, pops k r e l d g y)
 
   -- the first terminal is that of the word and what follows, and with tables in range it is one, where that holds of the end
@@ -162,7 +166,7 @@ module _ {B : Tables} where
   lands-gets l = descends-map (λ q st a w n c. chain-walk c) l
 
   pub gets-lands : {s z a : ℕ} {st w : List ℕ} → Gets B s z st a w → (below : List ℕ) × Lands B s z below st a w
-  gets-lands g = descends-some (λ q st a w n r. walk-chain r st) g
+  gets-lands g = descends-some (λ q st a w n r. let (below, c) = walk-chain r st in (below, n, c)) g
 
   pub gets-starts : {s z a : ℕ} {st w : List ℕ} → Gets B s z st a w → (u : List ℕ) → (u′ : List ℕ) × (w ++ (z ∷ u) ≡ a ∷ u′)
   gets-starts g u = descends-starts (λ q st a w n r. walk-starts r) g u

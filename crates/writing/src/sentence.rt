@@ -1,32 +1,39 @@
 // A sentence over its memory: a stack, the costs to go to a shift, and what the search works in.
+ghost use mathlib.Core.List.{[], _∷_};
 ghost use mathlib.Core.Path.{_≡_};
-ghost use Prim.Native.Nat.{_+_, _*_, _≤_, _<_};
+ghost use Prim.Native.Nat.{_+_, _*_, _≤_};
 ghost use lib.ListN.{length, getD};
 ghost use Rattle.book.specs.Order.{placeIn, Arranged};
 ghost use Rattle.book.specs.Tables.{tablesOf};
 ghost use Rattle.book.specs.TablesLaws.{Holds};
-ghost use Rattle.machine.specs.Machine.{Reaches};
-ghost use Rattle.walk.specs.Scale.{plain};
+ghost use Rattle.walk.specs.Choice.{Brings, Guides};
 ghost use Rattle.walk.specs.Cost.{Exact};
+ghost use Rattle.walk.specs.Ends.{endCost};
+ghost use Rattle.walk.specs.Goal.{Aim};
+ghost use Rattle.walk.specs.Scale.{plain};
 ghost use Rattle.layers.specs.Crossing.{claimIn};
-ghost use Rattle.layers.specs.Layer.{entryIn};
+ghost use Rattle.layers.specs.Layer.{entryIn, layerIn};
 ghost use Rattle.layers.specs.Opening.{OpenRows};
 ghost use Rattle.crossings.specs.Crossings.{CrossingTable};
+ghost use Rattle.search.specs.Ends.{Layered};
 ghost use Rattle.choice.specs.Choosing.{Chose};
-ghost use Rattle.choice.specs.ChoosingLaws.{ToPair};
 use book::Sizes;
 use choice::choose;
 use positions::mark_all;
 use walk::UNREACHED;
 
-// The sentence of n symbols of (s, z), at the front of the buffer. The stack holds the start, and has room for 128 states more a symbol.
+// The sentence of n symbols to what is aimed at in (s, z), at the front of the buffer. The stack holds the start, and has room for 128 states more a symbol.
 fn write_over(
     cells: &[u16],
     d: Sizes,
     table: &[u16],
     rows: &[u8; 4096],
     togo: &[u16; 4096],
+    due: &[u16],
+    len: usize,
+    left: usize,
     order: &[u8; 32],
+    breaks: bool,
     s: usize,
     z: usize,
     n: usize,
@@ -35,11 +42,12 @@ fn write_over(
 )
     requires { ⌜ Holds d (now cells) ⌝ }
     requires { ⌜ CrossingTable plain d (now cells) (now table) × OpenRows d (tablesOf (now cells)) (now rows) ⌝ }
-    requires { ⌜ ToPair plain (tablesOf (now cells)) (claimIn d (now table)) s z (entryIn (now togo)) × Exact plain (λ w. Reaches (tablesOf (now cells)) w z s) n ⌝ }
+    requires { ⌜ Layered d (now due) len left × Guides plain (tablesOf (now cells)) (claimIn d (now table)) z (Aim (tablesOf (now cells)) breaks s z) (endCost (tablesOf (now cells)) left len (entryIn (now togo)) (layerIn (now due))) ⌝ }
+    requires { ⌜ Exact plain (Brings (tablesOf (now cells)) z (Aim (tablesOf (now cells)) breaks s z) (0 ∷ [])) n ⌝ }
     requires { ⌜ Arranged (d .t) (now order) ⌝ }
-    requires { ⌜ (z < d .t) × (n ≤ plain .limit) × (n ≤ length (now buffer)) ⌝ }
+    requires { ⌜ (n ≤ plain .limit) × (n ≤ length (now buffer)) ⌝ }
     requires { ⌜ (1 + 128 * n ≤ length (now stack)) × (getD (now stack) 0 0 ≡ 0) ⌝ }
-    ensures { λ _. ⌜ Chose plain (placeIn (now (order .entry))) (λ w. Reaches (tablesOf (now (cells .entry))) w z s) n (now (buffer .entry)) (now (buffer .exit)) ⌝ }
+    ensures { λ _. ⌜ Chose plain (placeIn (now (order .entry))) (Brings (tablesOf (now (cells .entry))) z (Aim (tablesOf (now (cells .entry))) breaks s z) (0 ∷ [])) n (now (buffer .entry)) (now (buffer .exit)) ⌝ }
 {
     let mut pending = [0u8; 4096];
     mark_all(cells, d, false, &mut pending);
@@ -56,8 +64,12 @@ fn write_over(
         table,
         rows,
         togo,
+        due,
+        len,
+        left,
         &pending,
         order,
+        breaks,
         s,
         z,
         n,
@@ -88,14 +100,18 @@ fn short_stack() -> [u16; 4097]
     [0u16; 4097]
 }
 
-// The sentence of n symbols of (s, z), the least that reach it, at the front of the buffer.
+// The sentence of n symbols, the least that lead from the start to what is aimed at in (s, z), at the front of the buffer.
 pub fn write_sentence(
     cells: &[u16],
     d: Sizes,
     table: &[u16],
     rows: &[u8; 4096],
     togo: &[u16; 4096],
+    due: &[u16],
+    len: usize,
+    left: usize,
     order: &[u8; 32],
+    breaks: bool,
     s: usize,
     z: usize,
     n: usize,
@@ -103,10 +119,11 @@ pub fn write_sentence(
 )
     requires { ⌜ Holds d (now cells) ⌝ }
     requires { ⌜ CrossingTable plain d (now cells) (now table) × OpenRows d (tablesOf (now cells)) (now rows) ⌝ }
-    requires { ⌜ ToPair plain (tablesOf (now cells)) (claimIn d (now table)) s z (entryIn (now togo)) × Exact plain (λ w. Reaches (tablesOf (now cells)) w z s) n ⌝ }
+    requires { ⌜ Layered d (now due) len left × Guides plain (tablesOf (now cells)) (claimIn d (now table)) z (Aim (tablesOf (now cells)) breaks s z) (endCost (tablesOf (now cells)) left len (entryIn (now togo)) (layerIn (now due))) ⌝ }
+    requires { ⌜ Exact plain (Brings (tablesOf (now cells)) z (Aim (tablesOf (now cells)) breaks s z) (0 ∷ [])) n ⌝ }
     requires { ⌜ Arranged (d .t) (now order) ⌝ }
-    requires { ⌜ (z < d .t) × (n ≤ plain .limit) × (n ≤ length (now buffer)) ⌝ }
-    ensures { λ _. ⌜ Chose plain (placeIn (now (order .entry))) (λ w. Reaches (tablesOf (now (cells .entry))) w z s) n (now (buffer .entry)) (now (buffer .exit)) ⌝ }
+    requires { ⌜ (n ≤ plain .limit) × (n ≤ length (now buffer)) ⌝ }
+    ensures { λ _. ⌜ Chose plain (placeIn (now (order .entry))) (Brings (tablesOf (now (cells .entry))) z (Aim (tablesOf (now (cells .entry))) breaks s z) (0 ∷ [])) n (now (buffer .entry)) (now (buffer .exit)) ⌝ }
 {
     if n <= 32 {
         let mut stack = short_stack();
@@ -116,7 +133,11 @@ pub fn write_sentence(
             table,
             rows,
             togo,
+            due,
+            len,
+            left,
             order,
+            breaks,
             s,
             z,
             n,
@@ -132,7 +153,11 @@ pub fn write_sentence(
         table,
         rows,
         togo,
+        due,
+        len,
+        left,
         order,
+        breaks,
         s,
         z,
         n,

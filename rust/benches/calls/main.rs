@@ -20,7 +20,8 @@ use grammar::Grammar;
 use independent::book::Book;
 use measure::{ratio, shown, Subject};
 use purlquartz::Sizes;
-use random::books::{wild, Taste};
+use random::books::{breakable, wild, Taste};
+use random::lists::{covering_errors, encode_list};
 use random::ranks::ranked;
 use random::Random;
 use std::{env, fs};
@@ -41,6 +42,8 @@ fn main() {
     println!("times as long the library takes. `≈` marks a total that is scaled up from a sample.");
     println!();
     print_books(quick);
+    println!();
+    print_breaks(quick);
     println!();
     print_growth(quick);
     println!();
@@ -91,7 +94,7 @@ fn dense(seed: u64, terminals: u16, nonterminals: u16, states: u16) -> Book {
 fn print_books(quick: bool) {
     println!(
         "| book | form | T | N | S | P | check | to form 2 | to form 1 \
-         | map | one pair | failing pairs | all of them | judge |"
+         | map | one pair | reached errors | all of them | judge |"
     );
     println!("|---|---|---|---|---|---|---|---|---|---|---|---|---|---|");
     for name in SHIPPED {
@@ -107,20 +110,21 @@ fn print_books(quick: bool) {
     }
 }
 
+/// The list that is judged has an entry for each state that fails in error.
 fn print_book(name: &str, book: &Book) {
     let library = Subject::new(&both::LIBRARY, book);
     let independent = Subject::new(&both::INDEPENDENT, book);
-    let pair = library.farthest_failing();
-    let failing = library.failing.len();
+    let pair = library.farthest_error();
+    let list = encode_list(&covering_errors(&mut Random::new(1), book));
     let cells = [
         both_times(library.check(), independent.check()),
         both_times(library.to_form(2), independent.to_form(2)),
         both_times(library.to_form(1), independent.to_form(1)),
         both_times(library.map(), independent.map()),
         both_times(library.find(pair), independent.find(pair)),
-        failing.to_string(),
-        both_times(library.find_failing(), independent.find_failing()),
-        both_times(library.judge(), independent.judge()),
+        library.errors.len().to_string(),
+        both_times(library.find_errors(), independent.find_errors()),
+        both_times(library.judge(&list), independent.judge(&list)),
     ];
     let sizes = book.sizes;
     println!(
@@ -137,6 +141,50 @@ fn print_book(name: &str, book: &Book) {
 fn both_times(library: measure::Time, independent: measure::Time) -> String {
     let ratio = ratio(library, independent);
     format!("{} / {} = {ratio}", shown(library), shown(independent))
+}
+
+/// Reductions that break, of shipped books, where none does, and of books made so that some do.
+fn print_breaks(quick: bool) {
+    println!("| book | reductions | that break | longest sentence | that one | all reductions |");
+    println!("|---|---|---|---|---|---|");
+    for name in SHIPPED {
+        print_break(name, &shipped(name));
+    }
+    for name in ["json", "program"] {
+        let book = breakable(&mut Random::new(1), &shipped(name), 10);
+        print_break(&format!("{name}, 10 changes"), &book);
+    }
+    let mut book = doubling();
+    book.gotos[0] = None;
+    print_break("doubling, without a goto", &book);
+    let sizes = [(4, 4, 16), (8, 8, 32), (16, 16, 64)];
+    for (terminals, nonterminals, states) in sizes {
+        if !quick || states < 64 {
+            print_break("random", &dense(1, terminals, nonterminals, states));
+        }
+    }
+}
+
+/// One reduction is the one with the longest sentence; or else the last that there is.
+fn print_break(name: &str, book: &Book) {
+    let library = Subject::new(&both::LIBRARY, book);
+    let independent = Subject::new(&both::INDEPENDENT, book);
+    let breaks = library.breaks();
+    let told = breaks.iter().filter(|(_, length)| length.is_some());
+    let farthest = told.max_by_key(|(_, length)| *length).copied();
+    let pair = farthest.map(|(pair, _)| pair);
+    let Some(pair) = pair.or(library.reductions.last().copied()) else {
+        return;
+    };
+    let length = farthest.and_then(|(_, length)| length);
+    println!(
+        "| {name} | {} | {} | {} | {} | {} |",
+        library.reductions.len(),
+        breaks.len(),
+        length.map_or(String::new(), |length| length.to_string()),
+        both_times(library.find_break(pair), independent.find_break(pair)),
+        both_times(library.find_breaks(), independent.find_breaks()),
+    );
 }
 
 /// The check of true certificates beside the map. The maker is of this package, and not proved.

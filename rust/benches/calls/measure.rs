@@ -1,13 +1,11 @@
 //! Times of single calls on one book.
 
-use crate::both::Calls;
+use crate::both::{Calls, Finder};
 use crate::independent::book::{Action, Book};
 use crate::independent::calls::map_of;
-use crate::random::lists::{covering, encode_list};
 use crate::random::ranks::unranked;
-use crate::random::Random;
 use purlquartz::certificate::{make, Certificate};
-use purlquartz::{Verdict, LONG, MOST_CELLS, SENTENCE_BYTES, STACK_CELLS, UNREACHED};
+use purlquartz::{Break, Verdict, LONG, MOST_CELLS, SENTENCE_BYTES, STACK_CELLS, UNREACHED};
 use std::hint::black_box;
 use std::time::{Duration, Instant};
 
@@ -17,7 +15,7 @@ const REPEAT: Duration = Duration::from_millis(200);
 const BATCHES: usize = 3;
 /// A batch of calls takes about so long.
 const BATCH: Duration = Duration::from_micros(100);
-/// The calls for all failing pairs may take so long before the rest is left out.
+/// The calls for all pairs of a kind may take so long before the rest is left out.
 const PATIENCE: Duration = Duration::from_secs(20);
 
 #[derive(Clone, Copy, Default)]
@@ -50,6 +48,8 @@ fn timed(mut call: impl FnMut()) -> Time {
     }
 }
 
+pub type Pair = (u16, u16);
+
 pub struct Subject<'a> {
     calls: &'a Calls,
     cells: Vec<u16>,
@@ -57,41 +57,64 @@ pub struct Subject<'a> {
     unranked: [Vec<u16>; 2],
     map: Vec<u16>,
     work_cells: usize,
-    list: Vec<u8>,
-    /// The failing pairs.
-    pub failing: Vec<(u16, u16)>,
+    /// The reached pairs whose action is error.
+    pub errors: Vec<Pair>,
+    /// The pairs whose action is reduce.
+    pub reductions: Vec<Pair>,
 }
 
 impl<'a> Subject<'a> {
     pub fn new(calls: &'a Calls, book: &Book) -> Subject<'a> {
         let map = map_of(book);
-        let pairs = (0..map.len()).filter(|&pair| {
-            let (state, terminal) = (pair / book.terminals(), pair % book.terminals());
-            map[pair] != UNREACHED && book.action(state, terminal) == Action::Error
-        });
-        let terminals = book.terminals();
-        let pairs = pairs.map(|pair| ((pair / terminals) as u16, (pair % terminals) as u16));
+        let mut errors = Vec::new();
+        let mut reductions = Vec::new();
+        for (at, &length) in map.iter().enumerate() {
+            let (state, terminal) = (at / book.terminals(), at % book.terminals());
+            let pair = (state as u16, terminal as u16);
+            match book.action(state, terminal) {
+                Action::Error if length != UNREACHED => errors.push(pair),
+                Action::Reduce(_) => reductions.push(pair),
+                _ => {}
+            }
+        }
         Subject {
             calls,
             cells: book.cells(),
             unranked: [1, 2].map(|form| unranked(book).in_form(form).cells()),
             work_cells: book.sizes.work_cells(),
-            list: encode_list(&covering(&mut Random::new(1), book)),
-            failing: pairs.collect(),
+            errors,
+            reductions,
             map,
         }
     }
 
-    /// The failing pair with the longest sentence; (0, 0) if nothing fails.
-    pub fn farthest_failing(&self) -> (u16, u16) {
+    /// The reached error pair with the longest sentence; (0, 0) if there is none.
+    pub fn farthest_error(&self) -> Pair {
         let terminals = usize::from(self.cells[1]);
-        let length = |&(state, terminal): &(u16, u16)| {
+        let length = |&(state, terminal): &Pair| {
             self.map[usize::from(state) * terminals + usize::from(terminal)]
         };
-        let told = self.failing.iter().filter(|pair| length(pair) < LONG);
+        let told = self.errors.iter().filter(|pair| length(pair) < LONG);
         told.max_by_key(|pair| length(pair))
             .copied()
             .unwrap_or((0, 0))
+    }
+
+    /// The pairs whose reduction breaks, each with the length of its sentence, or none if long.
+    pub fn breaks(&self) -> Vec<(Pair, Option<usize>)> {
+        let mut work = vec![0; self.work_cells];
+        let mut buffer = [0; SENTENCE_BYTES];
+        let mut breaks = Vec::new();
+        for &(state, lookahead) in &self.reductions {
+            let call = self.calls.find_break;
+            let broken = call(&self.cells, state, lookahead, &mut work, &mut buffer);
+            match broken.expect("an answer") {
+                Break::None => {}
+                Break::Long => breaks.push(((state, lookahead), None)),
+                Break::Sentence(length) => breaks.push(((state, lookahead), Some(length))),
+            }
+        }
+        breaks
     }
 
     pub fn check(&self) -> Time {
@@ -125,46 +148,41 @@ impl<'a> Subject<'a> {
         time
     }
 
-    pub fn find(&self, (state, lookahead): (u16, u16)) -> Time {
-        let mut work = vec![0; self.work_cells];
-        let mut buffer = [0; SENTENCE_BYTES];
-        timed(|| {
-            let found = (self.calls.find)(&self.cells, state, lookahead, &mut work, &mut buffer);
-            black_box(found).expect("an answer");
-        })
+    pub fn find(&self, pair: Pair) -> Time {
+        let mut find = self.finder(self.calls.find);
+        timed(|| find(pair))
     }
 
-    /// One call for each failing pair. Pairs are taken in strides, so that what fits into the time
-    /// is spread over all states.
-    pub fn find_failing(&self) -> Time {
+    pub fn find_break(&self, pair: Pair) -> Time {
+        let mut find_break = self.finder(self.calls.find_break);
+        timed(|| find_break(pair))
+    }
+
+    /// One call for each reached error pair.
+    pub fn find_errors(&self) -> Time {
+        timed_each(&self.errors, self.finder(self.calls.find))
+    }
+
+    /// One call for each reduction.
+    pub fn find_breaks(&self) -> Time {
+        timed_each(&self.reductions, self.finder(self.calls.find_break))
+    }
+
+    /// Asks a finder for a pair.
+    fn finder<A: 'static>(&self, finder: Finder<A>) -> impl FnMut(Pair) + '_ {
         let mut work = vec![0; self.work_cells];
         let mut buffer = [0; SENTENCE_BYTES];
-        let count = self.failing.len();
-        let stride = (1..).map(|step| count * 5 / 8 + step);
-        let stride = stride
-            .take(count)
-            .find(|&stride| coprime(stride, count))
-            .unwrap_or(1);
-        let start = Instant::now();
-        let mut done = 0;
-        while done < count && start.elapsed() < PATIENCE {
-            let (state, lookahead) = self.failing[done * stride % count];
-            let found = (self.calls.find)(&self.cells, state, lookahead, &mut work, &mut buffer);
-            black_box(found).expect("an answer");
-            done += 1;
-        }
-        let scale = count as f64 / done.max(1) as f64;
-        Time {
-            seconds: start.elapsed().as_secs_f64() * scale,
-            sampled: done < count,
+        move |(state, lookahead)| {
+            let found = finder(&self.cells, state, lookahead, &mut work, &mut buffer);
+            assert!(black_box(found).is_ok(), "a refusal has no time");
         }
     }
 
-    pub fn judge(&self) -> Time {
+    pub fn judge(&self, list: &[u8]) -> Time {
         let mut work = vec![0; self.work_cells];
         let mut stack = [0; STACK_CELLS];
         timed(|| {
-            let judged = (self.calls.judge)(&self.cells, &self.list, &mut work, &mut stack);
+            let judged = (self.calls.judge)(&self.cells, list, &mut work, &mut stack);
             black_box(judged).expect("a judgement");
         })
     }
@@ -193,6 +211,28 @@ impl<'a> Subject<'a> {
                 "a wrong one has no time"
             );
         })
+    }
+}
+
+/// One call for each pair. Pairs are taken in strides, so that what fits into the time is spread
+/// over all states.
+fn timed_each(pairs: &[Pair], mut call: impl FnMut(Pair)) -> Time {
+    let count = pairs.len();
+    let stride = (1..).map(|step| count * 5 / 8 + step);
+    let stride = stride
+        .take(count)
+        .find(|&stride| coprime(stride, count))
+        .unwrap_or(1);
+    let start = Instant::now();
+    let mut done = 0;
+    while done < count && start.elapsed() < PATIENCE {
+        call(pairs[done * stride % count]);
+        done += 1;
+    }
+    let scale = count as f64 / done.max(1) as f64;
+    Time {
+        seconds: start.elapsed().as_secs_f64() * scale,
+        sampled: done < count,
     }
 }
 

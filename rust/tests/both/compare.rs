@@ -2,15 +2,17 @@
 //! Both answers and all memory, the guards too, must come out equal.
 
 use super::lent::{Lent, Memory};
-use super::{Calls, INDEPENDENT};
+use super::{Calls, Finder, INDEPENDENT};
 use crate::independent::book::Book;
-use crate::independent::calls::find_all;
+use crate::independent::calls::{find_all, find_all_breaks};
 use purlquartz::certificate::Certificate;
 use purlquartz::{Refusal, Rest, Verdict};
 use std::fmt::Debug;
 
 /// What both answered, in a word: a refusal's number, or the name of the case. Or how they differ.
 pub type Outcome = Result<String, String>;
+/// The same for all pairs of a book.
+pub type Outcomes = Result<Vec<String>, String>;
 
 fn word<A: Debug>(answer: &Result<A, Refusal>) -> String {
     match answer {
@@ -93,36 +95,91 @@ pub fn run(
 pub fn find(
     subject: &Calls,
     cells: &[u16],
+    pair: (u16, u16),
+    work: &Lent<u16>,
+    buffer: &Lent<u8>,
+) -> Outcome {
+    let finders = [subject.find, INDEPENDENT.find];
+    same_pair("find", finders, cells, pair, work, buffer)
+}
+
+pub fn find_break(
+    subject: &Calls,
+    cells: &[u16],
+    pair: (u16, u16),
+    work: &Lent<u16>,
+    buffer: &Lent<u8>,
+) -> Outcome {
+    let finders = [subject.find_break, INDEPENDENT.find_break];
+    same_pair("find_break", finders, cells, pair, work, buffer)
+}
+
+fn same_pair<A: Debug + PartialEq>(
+    call: &str,
+    finders: [Finder<A>; 2],
+    cells: &[u16],
     (state, lookahead): (u16, u16),
     work: &Lent<u16>,
     buffer: &Lent<u8>,
 ) -> Outcome {
-    let made = |calls: &Calls| {
+    let [subject, expected] = finders.map(|finder| {
         let (cells, mut work, mut buffer) = (Lent::holding(cells), work.clone(), buffer.clone());
         let lent = (work.part_mut(), buffer.part_mut());
-        let answer = (calls.find)(cells.part(), state, lookahead, lent.0, lent.1);
+        let answer = finder(cells.part(), state, lookahead, lent.0, lent.1);
         (answer, (cells, (work, buffer)))
-    };
-    same("find", made(subject), made(&INDEPENDENT))
+    });
+    same(call, subject, expected)
 }
 
 /// All pairs of a good book, against answers that are worked out once.
-pub fn find_each(subject: &Calls, book: &Book, work: &Lent<u16>, buffer: &Lent<u8>) -> Outcome {
+pub fn find_each(subject: &Calls, book: &Book, work: &Lent<u16>, buffer: &Lent<u8>) -> Outcomes {
+    let answers = find_all(book);
+    same_pairs("find", subject.find, answers, book, work, buffer)
+}
+
+/// The reductions of all pairs of a good book likewise.
+pub fn find_each_break(
+    subject: &Calls,
+    book: &Book,
+    work: &Lent<u16>,
+    buffer: &Lent<u8>,
+) -> Outcomes {
+    let answers = find_all_breaks(book);
+    same_pairs(
+        "find_break",
+        subject.find_break,
+        answers,
+        book,
+        work,
+        buffer,
+    )
+}
+
+fn same_pairs<A: Debug + PartialEq>(
+    call: &str,
+    finder: Finder<A>,
+    answers: Vec<(A, Vec<u8>)>,
+    book: &Book,
+    work: &Lent<u16>,
+    buffer: &Lent<u8>,
+) -> Outcomes {
     let cells = book.cells();
     let mut cleared = work.clone();
     cleared.part_mut()[..book.sizes.work_cells()].fill(0);
-    for (pair, (found, sentence)) in find_all(book).into_iter().enumerate() {
+    let mut words = Vec::new();
+    for (pair, (found, sentence)) in answers.into_iter().enumerate() {
         let (mut work, mut lent) = (work.clone(), buffer.clone());
         let state = (pair / book.terminals()) as u16;
         let lookahead = (pair % book.terminals()) as u16;
-        let answer = (subject.find)(&cells, state, lookahead, work.part_mut(), lent.part_mut());
+        let answer = finder(&cells, state, lookahead, work.part_mut(), lent.part_mut());
         let mut expected = buffer.clone();
         expected.part_mut()[..sentence.len()].copy_from_slice(&sentence);
-        let call = format!("find {state} {lookahead}");
+        let call = format!("{call} {state} {lookahead}");
         let expected = (cleared.clone(), expected);
-        same(&call, (answer, (work, lent)), (Ok(found), expected))?;
+        let word = same(&call, (answer, (work, lent)), (Ok(found), expected))?;
+        words.push(word);
     }
-    Ok("each".to_string())
+    Ok(words)
 }
 
 pub fn map(subject: &Calls, cells: &[u16], work: &Lent<u16>, map: &Lent<u16>) -> Outcome {

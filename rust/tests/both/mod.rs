@@ -10,6 +10,8 @@ use purlquartz::*;
 type Refused<T> = Result<T, Refusal>;
 /// A call that writes the book of some cells to others, in one of the forms.
 pub type Converter = fn(&[u16], &mut [u16]) -> Refused<usize>;
+/// Takes a book, a state and a lookahead, work cells and a sentence buffer.
+pub type Finder<A> = fn(&[u16], u16, u16, &mut [u16], &mut [u8]) -> Refused<A>;
 /// Takes a book, the two rows of a certificate and its sentences.
 pub type Checker = fn(&[u16], &[u16], &[u16], &[u8]) -> Refused<Verdict>;
 
@@ -21,7 +23,8 @@ pub struct Calls {
     pub to_form_2: Converter,
     pub write: fn(&[u16], &mut [u8]) -> Refused<usize>,
     pub run: fn(&[u16], &[u8], u16, &mut [u16]) -> Refused<Ending>,
-    pub find: fn(&[u16], u16, u16, &mut [u16], &mut [u8]) -> Refused<Found>,
+    pub find: Finder<Found>,
+    pub find_break: Finder<Break>,
     pub map: fn(&[u16], &mut [u16], &mut [u16]) -> Refused<usize>,
     pub sets: fn(&[u16], &mut [u16], &mut [u32], &mut [u32]) -> Refused<usize>,
     pub check_list: fn(&[u16], &[u8]) -> Refused<Rest>,
@@ -77,6 +80,7 @@ pub const LIBRARY: Calls = Calls {
     write,
     run,
     find,
+    find_break,
     map,
     sets,
     check_list,
@@ -95,6 +99,7 @@ pub const INDEPENDENT: Calls = Calls {
     write: calls::write,
     run: calls::run,
     find: calls::find,
+    find_break: calls::find_break,
     map: calls::map,
     sets: calls::sets,
     check_list: calls::check_list,

@@ -1,6 +1,7 @@
 //! Every call of the library, over lent memory.
 
 use super::book::{Action, Book};
+use super::breaks::{find_breaks, has_break};
 use super::certificate::Certificate;
 use super::numbers::refuse;
 use super::reach::{distances, map_cell};
@@ -87,6 +88,26 @@ fn clear_work(book: &Book, work: &mut [u16]) {
     work[..book.sizes.work_cells()].fill(0);
 }
 
+/// The finder's refusals that come after the book's.
+fn check_pair(
+    book: &Book,
+    (state, lookahead): (u16, u16),
+    work: &[u16],
+    buffer: &[u8],
+) -> Result<(), Refusal> {
+    if state >= book.sizes.states {
+        return refuse(10, 0);
+    }
+    if lookahead >= book.sizes.terminals {
+        return refuse(11, 0);
+    }
+    check_work(book, work)?;
+    if buffer.len() < SENTENCE_BYTES {
+        return refuse(12, 0);
+    }
+    Ok(())
+}
+
 pub fn find(
     cells: &[u16],
     state: u16,
@@ -95,51 +116,51 @@ pub fn find(
     buffer: &mut [u8],
 ) -> Result<Found, Refusal> {
     let book = Book::from_cells(cells)?;
-    if state >= book.sizes.states {
-        return refuse(10, 0);
-    }
-    if lookahead >= book.sizes.terminals {
-        return refuse(11, 0);
-    }
-    check_work(&book, work)?;
-    if buffer.len() < SENTENCE_BYTES {
-        return refuse(12, 0);
-    }
+    check_pair(&book, (state, lookahead), work, buffer)?;
     clear_work(&book, work);
     let summaries = Summaries::new(&book);
-    let distances = distances(&summaries);
+    let distances = distances(&summaries, 0);
     let head = summaries.head(state.into(), lookahead.into());
-    Ok(match map_cell(distances[head]) {
-        UNREACHED => Found::Unreached,
-        LONG => Found::Long,
-        length => {
-            let sentence = Words::new(&summaries, &distances).sentence(head);
-            buffer[..usize::from(length)].copy_from_slice(&sentence);
-            Found::Sentence(sentence.len())
-        }
-    })
+    let (found, sentence) = Words::new(&summaries, &distances).answer(head);
+    buffer[..sentence.len()].copy_from_slice(&sentence);
+    Ok(found)
+}
+
+pub fn find_break(
+    cells: &[u16],
+    state: u16,
+    lookahead: u16,
+    work: &mut [u16],
+    buffer: &mut [u8],
+) -> Result<Break, Refusal> {
+    let book = Book::from_cells(cells)?;
+    check_pair(&book, (state, lookahead), work, buffer)?;
+    clear_work(&book, work);
+    let lookahead = usize::from(lookahead);
+    let (found, sentence) = find_breaks(&book, state.into(), lookahead..lookahead + 1).remove(0);
+    buffer[..sentence.len()].copy_from_slice(&sentence);
+    Ok(found)
 }
 
 /// The whole map of a valid book.
 pub fn map_of(book: &Book) -> Vec<u16> {
     let summaries = Summaries::new(book);
-    distances(&summaries).into_iter().map(map_cell).collect()
+    distances(&summaries, 0).into_iter().map(map_cell).collect()
 }
 
 /// The answers for all pairs of a valid book, by state, then terminal.
 pub fn find_all(book: &Book) -> Vec<(Found, Vec<u8>)> {
     let summaries = Summaries::new(book);
-    let distances = distances(&summaries);
+    let distances = distances(&summaries, 0);
     let mut words = Words::new(&summaries, &distances);
-    let mut answers = Vec::new();
-    for (head, &distance) in distances.iter().enumerate() {
-        answers.push(match map_cell(distance) {
-            UNREACHED => (Found::Unreached, Vec::new()),
-            LONG => (Found::Long, Vec::new()),
-            length => (Found::Sentence(length.into()), words.sentence(head)),
-        });
-    }
-    answers
+    let answers = (0..distances.len()).map(|head| words.answer(head));
+    answers.collect()
+}
+
+/// The same for the reductions of all pairs.
+pub fn find_all_breaks(book: &Book) -> Vec<(Break, Vec<u8>)> {
+    let rows = (0..book.states()).map(|state| find_breaks(book, state, 0..book.terminals()));
+    rows.flatten().collect()
 }
 
 pub fn map(cells: &[u16], work: &mut [u16], map: &mut [u16]) -> Result<usize, Refusal> {
@@ -217,7 +238,9 @@ fn judge_entries(book: &Book, bytes: &[u8], entries: &[Entry]) -> Judgement {
     for (index, entry) in entries.iter().enumerate() {
         let (ending, _) = machine::run(book, entry.symbols(bytes), entry.lookahead);
         match ending {
-            Ending::Error(stop) if usize::from(stop.taken) == entry.length => {
+            Ending::Error(stop) | Ending::Broken(stop)
+                if usize::from(stop.taken) == entry.length =>
+            {
                 let seen = &mut covered[usize::from(stop.state)];
                 if *seen {
                     return Judgement::Repeat { entry: index };
@@ -238,12 +261,13 @@ fn judge_entries(book: &Book, bytes: &[u8], entries: &[Entry]) -> Judgement {
 /// The lowest state with a failing pair, long ones too, that is not covered.
 fn judge_cover(book: &Book, covered: &[bool]) -> Judgement {
     let map = map_of(book);
-    let failing = |state: usize| {
+    let has_error = |state: usize| {
         (0..book.terminals()).any(|terminal| {
             book.action(state, terminal) == Action::Error
                 && map[state * book.terminals() + terminal] != UNREACHED
         })
     };
+    let failing = |state: usize| has_error(state) || has_break(book, state);
     match (0..book.states()).find(|&state| !covered[state] && failing(state)) {
         Some(state) => Judgement::Uncovered {
             state: state as u16,

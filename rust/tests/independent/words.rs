@@ -5,7 +5,9 @@
 //! wanted, then settled by rising cost; facts of one cost may lean on each other through parts of
 //! no cost, so each cost is gone over until nothing changes.
 
+use super::reach::map_cell;
 use super::summaries::{Edge, Label, Summaries};
+use purlquartz::{Found, LONG, UNREACHED};
 use std::collections::HashMap;
 
 #[derive(Clone, Copy, PartialEq, Eq, Hash, PartialOrd, Ord)]
@@ -50,8 +52,17 @@ impl<'a> Words<'a> {
         }
     }
 
+    /// What the finder says of a head, with the sentence or nothing.
+    pub fn answer(&mut self, head: usize) -> (Found, Vec<u8>) {
+        match map_cell(self.distances[head]) {
+            UNREACHED => (Found::Unreached, Vec::new()),
+            LONG => (Found::Long, Vec::new()),
+            length => (Found::Sentence(length.into()), self.sentence(head)),
+        }
+    }
+
     /// The sentence for a head whose distance is at most 1,000.
-    pub fn sentence(&mut self, head: usize) -> Vec<u8> {
+    fn sentence(&mut self, head: usize) -> Vec<u8> {
         let wanted = Fact::Reach(head as u32);
         if self.cost(wanted) == 0 {
             return Vec::new();

@@ -73,6 +73,25 @@ pub fn tied_book(random: &mut Random) -> Book {
     wild(random, taste)
 }
 
+/// A book where reductions break often: gotos are few, or productions longer than most stacks.
+pub fn breaking_book(random: &mut Random) -> Book {
+    let sizes = Sizes {
+        form: random.between(1, 2) as u16,
+        terminals: random.between(2, 5) as u16,
+        nonterminals: random.between(1, 4) as u16,
+        states: random.between(2, 9) as u16,
+        productions: random.between(1, 6) as u16,
+    };
+    let taste = Taste {
+        sizes,
+        longest: random.pick(&[1, 2, 3, 5, 9, 32]),
+        shifts: random.between(20, 60),
+        reduces: random.between(20, 60),
+        gotos: random.pick(&[5, 30, 60, 90]),
+    };
+    wild(random, taste)
+}
+
 /// Sizes in the middle of the limits, with productions of up to 32 symbols.
 pub fn medium_taste(random: &mut Random) -> Taste {
     let sizes = Sizes {
@@ -180,4 +199,28 @@ pub fn disturbed(random: &mut Random, book: &Book, changes: usize) -> Book {
         }
     }
     book
+}
+
+/// The book with some gotos gone and some productions longer, so that reductions break.
+pub fn breakable(random: &mut Random, book: &Book, changes: usize) -> Book {
+    let mut book = book.clone();
+    for _ in 0..changes {
+        let production = random.below(book.productions.len().max(1));
+        let longer = random.between(1, 3) as u16;
+        match book.productions.get_mut(production) {
+            Some(production) if random.percent(30) => {
+                production.length = (production.length + longer).min(32);
+            }
+            _ => forget_goto(random, &mut book.gotos),
+        }
+    }
+    book
+}
+
+fn forget_goto(random: &mut Random, gotos: &mut [Option<u16>]) {
+    let there = (0..gotos.len()).filter(|&at| gotos[at].is_some());
+    let there: Vec<usize> = there.collect();
+    if !there.is_empty() {
+        gotos[random.pick(&there)] = None;
+    }
 }

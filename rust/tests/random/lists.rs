@@ -2,10 +2,11 @@
 
 use super::Random;
 use crate::independent::book::{Action, Book};
+use crate::independent::breaks::find_breaks;
 use crate::independent::calls::find_all;
 use crate::independent::machine::run;
 use crate::independent::numbers::encode;
-use purlquartz::{Ending, Found};
+use purlquartz::{Break, Ending, Found};
 
 /// A sentence and its lookahead.
 pub type Line = (Vec<u8>, u16);
@@ -40,19 +41,53 @@ pub fn taken_sentence(random: &mut Random, book: &Book, length: usize) -> Vec<u8
 
 /// For each state with a failing pair one sentence that fails there, in a random order.
 pub fn covering(random: &mut Random, book: &Book) -> Vec<Line> {
+    one_a_state(random, book, |state, found| {
+        [errors(book, state, found), breaks(book, state)].concat()
+    })
+}
+
+/// The same for each state that fails in error.
+pub fn covering_errors(random: &mut Random, book: &Book) -> Vec<Line> {
+    one_a_state(random, book, |state, found| errors(book, state, found))
+}
+
+/// For each state one of its lines, if there are any, which may be made of what the finder says.
+fn one_a_state(
+    random: &mut Random,
+    book: &Book,
+    lines_of: impl Fn(usize, &[(Found, Vec<u8>)]) -> Vec<Line>,
+) -> Vec<Line> {
     let answers = find_all(book);
     let mut lines = Vec::new();
-    for state in 0..book.states() {
-        let failing = (0..book.terminals()).filter_map(|terminal| {
-            let (found, sentence) = &answers[state * book.terminals() + terminal];
-            let fails = book.action(state, terminal) == Action::Error;
-            let told = matches!(found, Found::Sentence(_));
-            (fails && told).then(|| (sentence.clone(), terminal as u16))
-        });
-        let failing: Vec<Line> = failing.collect();
+    for (state, found) in answers.chunks(book.terminals()).enumerate() {
+        let mut failing = lines_of(state, found);
         if !failing.is_empty() && lines.len() < 128 {
             let at = random.below(lines.len() + 1);
-            lines.insert(at, failing[random.below(failing.len())].clone());
+            lines.insert(at, failing.swap_remove(random.below(failing.len())));
+        }
+    }
+    lines
+}
+
+/// The found sentences of a state that fail in error, one for each lookahead.
+fn errors(book: &Book, state: usize, answers: &[(Found, Vec<u8>)]) -> Vec<Line> {
+    let mut lines = Vec::new();
+    for (terminal, (found, sentence)) in answers.iter().enumerate() {
+        let is_error = book.action(state, terminal) == Action::Error;
+        if is_error && matches!(found, Found::Sentence(_)) {
+            lines.push((sentence.clone(), terminal as u16));
+        }
+    }
+    lines
+}
+
+/// The found sentences with which reductions of a state break, one for each lookahead.
+fn breaks(book: &Book, state: usize) -> Vec<Line> {
+    let answers = find_breaks(book, state, 0..book.terminals());
+    let mut lines = Vec::new();
+    for (terminal, (found, sentence)) in answers.into_iter().enumerate() {
+        if matches!(found, Break::Sentence(_)) {
+            lines.push((sentence, terminal as u16));
         }
     }
     lines

@@ -5,4 +5,5 @@ use Rattle.printing.proofs.print_book.Tie as tie
 
 pub print-book-spec : {M : Type 1} → statement M
 print-book-spec =
-    tie.close (tie.spec (λ c κs. search needs) (λ c κs. search needs) (λ c κs. search needs) (λ c. search needs) (λ c. search needs))
+    tie.close
+    (tie.spec (λ c κs. search needs) (λ c κs. search needs) (λ c κs. search needs) (λ c κs. search needs) (λ c κs. search needs) (λ c. search needs) (λ c. search needs))

@@ -6,10 +6,10 @@ use Rattle.printing.proofs.print_state.Statement.{statement}
 use Rattle.printing.proofs.print_state.Tie as tie
 
 put-state-requires : tie.Need-put-state-requires
-put-state-requires c κs = let p = c .before .before .before .before .pre in (p .0, (p .1 .0, (p .1 .1 .0, (p .1 .1 .1, omega (arith, c .before .zeros .ensures)))))
+put-state-requires c κs = let p = c .before .before .before .before .pre in (p .0, (p .1 .0, (p .1 .1 .0, (p .1 .1 .1 .0, (p .1 .1 .1 .1, omega (arith, c .before .zeros .ensures))))))
 
 slice-aggregate-write-all : tie.Need-slice-aggregate-write-all
-slice-aggregate-write-all c = simp length-take (omega (arith, c .before .before .put-state .ensures .1, c .before .before .put-state .kept .1 .1 .1 .1 .1 .0))
+slice-aggregate-write-all c = simp length-take (omega (arith, c .before .before .put-state .ensures .1, c .before .before .put-state .kept .1 .1 .1 .1 .1 .1 .0))
 
 pub print-state-spec : {M : Type 1} → statement M
 print-state-spec =

@@ -5,10 +5,10 @@ use Rattle.agreement_test.proofs.pops.distances.Statement.{statement}
 use Rattle.agreement_test.proofs.pops.distances.Tie as tie
 
 abbrev Inv-loop : tie.InvT-loop
-Inv-loop tables t dist₀ over₀ pops₀ k₀ dist over pops k = Unit
+Inv-loop tables t over₀ dist₀ pops₀ k₀ over dist pops k = Unit
 
 abbrev μ-loop : tie.MeasureT-loop
-μ-loop tables t dist₀ over₀ pops₀ k₀ dist over pops k = 1000 - k
+μ-loop tables t over₀ dist₀ pops₀ k₀ over dist pops k = 1000 - k
 
 pub distances-spec : {M : Type 1} → statement M
 distances-spec =

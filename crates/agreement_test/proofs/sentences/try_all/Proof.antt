@@ -5,10 +5,10 @@ use Rattle.agreement_test.proofs.sentences.try_all.Statement.{statement
 use Rattle.agreement_test.proofs.sentences.try_all.Tie as tie
 
 abbrev Inv-loop : tie.InvT-loop
-Inv-loop tables t least₀ words₀ stack₀ word₀ n₀ k₀ least words stack word n k = n ≤ 1001
+Inv-loop tables breaks t least₀ words₀ stack₀ word₀ n₀ k₀ least words stack word n k = n ≤ 1001
 
 abbrev μ-loop : tie.MeasureT-loop
-μ-loop tables t least₀ words₀ stack₀ word₀ n₀ k₀ least words stack word n k = 4000 - k
+μ-loop tables breaks t least₀ words₀ stack₀ word₀ n₀ k₀ least words stack word n k = 4000 - k
 
 pub try-all-spec : {M : Type 1} → statement M
 try-all-spec =

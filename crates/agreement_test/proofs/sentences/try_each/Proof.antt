@@ -5,10 +5,10 @@ use Rattle.agreement_test.proofs.sentences.try_each.Statement.{statemen
 use Rattle.agreement_test.proofs.sentences.try_each.Tie as tie
 
 abbrev Inv-loop : tie.InvT-loop
-Inv-loop tables t stack₀ w least₀ words₀ z₀ stack least words z = Unit
+Inv-loop tables breaks t stack₀ w least₀ words₀ z₀ stack least words z = Unit
 
 abbrev μ-loop : tie.MeasureT-loop
-μ-loop tables t stack₀ w least₀ words₀ z₀ stack least words z = t - z
+μ-loop tables breaks t stack₀ w least₀ words₀ z₀ stack least words z = t - z
 
 loop-holds : tie.Need-loop-holds Inv-loop μ-loop
 loop-holds c = search needs

@@ -10,7 +10,7 @@ use Rattle.distances.proofs.to_goals.approach.Statement.{statement}
 use Rattle.distances.proofs.to_goals.approach.Tie as tie
 
 returns : tie.Need-returns
-returns c = let p = c .before .before .before .before .pre in (distance-pass-idle (p .1 .1 .0) (nearest-skipped (p .0 .fitted .holds) _ _ _ (p .0 .skips) (c .if1 .taken) (terminal (p .0 .fitted .holds) (p .1 .0 .1)) (p .1 .1 .0)), p .1 .1 .1)
+returns c = let p = c .before .before .before .before .pre in (distance-pass-idle (p .1 .1 .0) (nearest-skipped _ _ (p .0 .skips) (c .if1 .taken) (terminal (p .0 .fitted .holds) (p .1 .0 .1)) (p .1 .1 .0)), p .1 .1 .1)
 
 returns-2 : tie.Need-returns-2
 returns-2 c = let p = c .before .before .before .before .before .before .before .before .pre in let h = terminal (p .0 .fitted .holds) (p .1 .0 .1) in (distance-pass-idle (p .1 .1 .0) (nearest (p .0 .fitted .holds) _ h (c .before .toward .ensures) (le-trans (p .1 .1 .0 .most _ _ h) (c .if2 .taken))), p .1 .1 .1)

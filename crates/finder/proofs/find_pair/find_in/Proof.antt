@@ -3,7 +3,7 @@ use mathlib.Core.Path.{sym, _∙_}
 use Rattle.book.specs.CallLaws.{steps-none}
 use Rattle.book.specs.TablesLaws.{accepted-book}
 use Rattle.finder.specs.FinderLaws.{pair-admitted}
-use Rattle.finder.specs.MapLaws.{told-cleared}
+use Rattle.work.specs.WorkLaws.{told-cleared}
 use borrow.Author.Needs.{needs}
 use Rattle.finder.proofs.find_pair.find_in.Statement.{statement}
 use Rattle.finder.proofs.find_pair.find_in.Tie as tie

@@ -20,8 +20,9 @@ returns : tie.Need-returns
 returns c =
     let e = c .before .before .before .before .before .before .before .before .before .before .before .before .before .before .before .before .before .before .pre .0 in
     let x = rw (c .before .before .before .before .before .before .before .before .before .before .before .before .before .plain-cells .ensures .0, c .before .before .before .before .before .before .before .before .plain-sizes .ensures) at (c .before .before .before .before .solve-plain .ensures) in
+    let a = c .before .before .before .before .before .before .before .before .before .before .before .before .before .before .before .before .before .before .args in
     let counted = terminals-are (plain-holds _ _ e) in
-    (rw (plain-tables _ _ e) at (answered-rank _ (λ b some l. c .before .before .before .before .before .before .before .before .before .before .by-rank .ensures .place b some (rw counted at l)) (x .0)), x .1)
+    (rw (plain-tables _ _ e) at (answered-rank (a .breaks) _ (a .s) (a .z) (λ b some l. c .before .before .before .before .before .before .before .before .before .before .by-rank .ensures .place b some (rw counted at l)) (x .0)), x .1)
 
 pub solve-spec : {M : Type 1} → statement M
 solve-spec =

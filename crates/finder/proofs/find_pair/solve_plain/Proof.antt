@@ -1,6 +1,6 @@
 -- `finder::find_pair::solve_plain` meets its contract. Assumes nothing.
 use native.Mathlib.Omega.{arith}
-use Rattle.finder.specs.MapLaws.{work-cleared}
+use Rattle.work.specs.WorkLaws.{work-cleared}
 use borrow.Author.Needs.{needs}
 use Rattle.finder.proofs.find_pair.solve_plain.Statement.{statement}
 use Rattle.finder.proofs.find_pair.solve_plain.Tie as tie

@@ -11,16 +11,16 @@ use Rattle.judgement.proofs.coverage.lowest_lacking.Statement.{statemen
 use Rattle.judgement.proofs.coverage.lowest_lacking.Tie as tie
 
 abbrev Inv-loop : tie.InvT-loop
-Inv-loop cells d dist flags s q₀ q = (q ≤ d .s) × (lowestState (lacksIn (stateFails cells dist (d .t)) flags) (d .s) 0 ≡ lowestState (lacksIn (stateFails cells dist (d .t)) flags) (d .s - q) q)
+Inv-loop cells d dist broken flags s q₀ q = (q ≤ d .s) × (lowestState (lacksIn (stateFails cells dist broken (d .t)) flags) (d .s) 0 ≡ lowestState (lacksIn (stateFails cells dist broken (d .t)) flags) (d .s - q) q)
 
 abbrev μ-loop : tie.MeasureT-loop
-μ-loop cells d dist flags s q₀ q = d .s - q
+μ-loop cells d dist broken flags s q₀ q = d .s - q
 
 loop-holds : tie.Need-loop-holds Inv-loop μ-loop
 loop-holds c = (omega arith, rw sub-zero)
 
-cast-t9 : tie.Need-cast-t9 Inv-loop μ-loop
-cast-t9 c = omega (arith, c .before .before .before .before .before .pre .small .states)
+cast-t10 : tie.Need-cast-t10 Inv-loop μ-loop
+cast-t10 c = omega (arith, c .before .before .before .before .before .pre .small .states)
 
 returns : tie.Need-returns Inv-loop μ-loop
 returns c = sym (c .before .before .before .loop .inv .1 ∙ lowest-here _ _ _ (c .before .before .loop-test .taken) (sym (c .before .lacks .ensures) ∙ c .if1 .taken))
@@ -33,4 +33,4 @@ returns-2 c = sym (c .before .loop .inv .1 ∙ lowest-done _ _ _ (c .loop-test .
 
 pub lowest-lacking-spec : {M : Type 1} → statement M
 lowest-lacking-spec =
-    tie.close (tie.spec Inv-loop μ-loop loop-holds (λ c κs. search needs) cast-t9 returns (λ c. search needs) (λ c. search needs) loop-again returns-2)
+    tie.close (tie.spec Inv-loop μ-loop loop-holds (λ c κs. search needs) cast-t10 returns (λ c. search needs) (λ c. search needs) loop-again returns-2)

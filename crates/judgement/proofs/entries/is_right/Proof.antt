@@ -6,6 +6,9 @@ use Rattle.judgement.proofs.entries.is_right.Tie as tie
 returns : tie.Need-returns
 returns c = rw (c .before .before .ending .given .1)
 
+returns-3 : tie.Need-returns-3
+returns-3 c = rw (c .before .before .ending2 .given .1)
+
 pub is-right-spec : {M : Type 1} → statement M
 is-right-spec =
     tie.close
@@ -18,7 +21,7 @@ is-right-spec =
     (λ c. search needs)
     returns
     (λ c. search needs)
-    (λ c. search needs)
+    returns-3
     (λ c. search needs)
     (λ c. search needs)
     (λ c. search needs))

@@ -13,19 +13,21 @@ use Rattle.lines.proofs.state.put_state.Statement.{statement}
 use Rattle.lines.proofs.state.put_state.Tie as tie
 
 abbrev Inv-loop : tie.InvT-loop
-Inv-loop cells d table order s out₀ at t sentence₀ next₀ z₀ out sentence next z = (z ≤ t) × (length sentence ≡ 1000) × Lines (placeIn order) (tablesOf cells) s out₀ at out next z
+Inv-loop cells d table order broken s out₀ at t sentence₀ next₀ z₀ out sentence next z = (z ≤ t) × (length sentence ≡ 1000) × Lines (placeIn order) (tablesOf cells) s out₀ at out next z
 
 abbrev μ-loop : tie.MeasureT-loop
-μ-loop cells d table order s out₀ at t sentence₀ next₀ z₀ out sentence next z = t - z
+μ-loop cells d table order broken s out₀ at t sentence₀ next₀ z₀ out sentence next z = t - z
 
 loop-holds : tie.Need-loop-holds Inv-loop μ-loop
 loop-holds c = (omega arith, search needs, lines-none)
 
 put-action-requires : tie.Need-put-action-requires Inv-loop μ-loop
-put-action-requires c κs = (c .before .before .before .before .before .before .before .pre .0, (c .before .before .before .before .before .before .before .pre .1 .0, (c .before .before .before .before .before .before .before .pre .1 .1 .0, (c .before .before .before .before .before .before .before .pre .1 .1 .1 .0, c .before .before .loop-test .taken, omega (arith, c .before .before .before .loop .inv .1), omega (arith, c .before .before .loop-test .taken, c .before .before .before .before .before .before .before .pre .0 .small .terminals, c .before .before .before .before .before .before .before .pre .1 .1 .1 .1, c .before .before .before .loop .inv .2 .size, c .before .before .before .loop .inv .2 .near)))))
+put-action-requires c κs =
+    let p = c .before .before .before .before .before .before .before .pre in
+    (p .0, (p .1 .0, (p .1 .1 .0, (p .1 .1 .1 .0, (p .1 .1 .1 .1 .0, c .before .before .loop-test .taken, omega (arith, c .before .before .before .loop .inv .1), omega (arith, c .before .before .loop-test .taken, p .0 .small .terminals, p .1 .1 .1 .1 .1, c .before .before .before .loop .inv .2 .size, c .before .before .before .loop .inv .2 .near))))))
 
 loop-again : tie.Need-loop-again Inv-loop μ-loop
-loop-again c = (omega arith, c .before .before .before .put-action .kept .1 .1 .1 .1 .1 .1 .0 ∙ c .before .before .before .before .before .before .before .loop .inv .1, lines-more (c .before .before .before .before .before .before .before .loop .inv .2) (c .before .before .before .put-action .kept .1 .1 .1 .1 .1 .1 .1 .0) (c .before .before .before .put-action .ensures .0) (c .before .before .before .put-action .ensures .1))
+loop-again c = (omega arith, c .before .before .before .put-action .kept .1 .1 .1 .1 .1 .1 .1 .0 ∙ c .before .before .before .before .before .before .before .loop .inv .1, lines-more (c .before .before .before .before .before .before .before .loop .inv .2) (c .before .before .before .put-action .kept .1 .1 .1 .1 .1 .1 .1 .1 .0) (c .before .before .before .put-action .ensures .0) (c .before .before .before .put-action .ensures .1))
 
 same-length : tie.Need-same-length Inv-loop μ-loop
 same-length c = c .before .loop .inv .2 .size

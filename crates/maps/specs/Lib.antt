@@ -1,0 +1,9 @@
+pub mod Maps
+pub mod Admitted
+pub mod Rows
+pub mod RowsLaws
+pub mod MapLaws
+pub mod Reached
+pub mod ReachedLaws
+pub mod AgreementLaws
+pub mod AlikeLaws
