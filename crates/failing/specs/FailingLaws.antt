@@ -1,22 +1,17 @@
 -- Laws of the pairs that fail: the costs from the start and those of breaks decide which. Assumes nothing.
 use mathlib.Core.Bool.{Bool, true, false, cond, false≢true}
 use mathlib.Core.List.{List}
-use mathlib.Core.Logic.{_↔_, ⊎-elim}
-use mathlib.Core.Path.{_≡_, refl, sym, _∙_}
+use mathlib.Core.Path.{_≡_, refl, sym}
 use Prim.Native.Nat.{ℕ, _<_}
-use native.Mathlib.Omega.{arith}
-use borrow.Author.Tests.{lt-ltb, ltb-true}
-use lib.Dec.{ltb}
-use Rattle.book.specs.Tables.{Tables, tablesOf}
+use Rattle.book.specs.Tables.{tablesOf}
 use Rattle.book.specs.TablesLaws.{Holds}
 use Rattle.book.specs.declared.Action.{Action}
 use Rattle.book.specs.declared.Action.the-variants.{Error, Accept, Shift, Reduce}
 use Rattle.book.specs.declared.Sizes.{Sizes}
-use Rattle.machine.specs.MachineLaws.{clash}
 use Rattle.sets.specs.SetLaws.{both}
 use Rattle.walk.specs.Breaks.{Breaks}
-use Rattle.walk.specs.Cost.{Exact}
-use Rattle.walk.specs.Scale.{plain, unreached}
+use Rattle.walk.specs.CostLaws.{exact-reached}
+use Rattle.walk.specs.Scale.{plain}
 use Rattle.breaks.specs.BreakingLaws.{breaks-reduce}
 use Rattle.layers.specs.CrossingLaws.{terminals-are}
 use Rattle.distances.specs.Distances.{StartTable}
@@ -33,21 +28,10 @@ is-error Accept e = absurd (false≢true e)
 is-error (Shift s) e = absurd (false≢true e)
 is-error (Reduce p) e = absurd (false≢true e)
 
--- an exact cost below unreached is what some word has
-exact-some : {P : List ℕ → Type 0} {v : ℕ} → Exact plain P v → (ltb v (unreached plain) ≡ true) ↔ ((w : List ℕ) × P w)
-exact-some {v} x = (
-  λ e. ⊎-elim (λ u. absurd (omega (arith, ltb-true v (unreached plain) e))) (λ (w, p, u). (w, p)) (x .attained),
-  λ (w, p). lt-ltb v (unreached plain) (omega (arith, x .least w p)),
-)
-
--- no error pair breaks
-pub error-unbroken : {B : Tables} {s z : ℕ} {w : List ℕ} → B .act s z ≡ Error → Breaks B w z s → ⊥
-error-unbroken e b = let (p, r) = breaks-reduce b in clash cc
-
 -- which pairs break
 pub breaks-decides : {d : Sizes} {cells broken : List ℕ} (s z : ℕ) → s < d .s → z < d .t → BreakTable plain d cells broken
     → Decides (hasCost broken s z) ((w : List ℕ) × Breaks (tablesOf cells) w z s)
-breaks-decides s z hs hz y = exact-some (y .exact s z hs hz)
+breaks-decides s z hs hz y = exact-reached (y .exact s z hs hz)
 
 -- .. and which fail
 pub fails-decides : {d : Sizes} {cells dist broken : List ℕ} → Holds d cells → (s z : ℕ) → s < d .s → z < d .t → StartTable plain d cells dist → BreakTable plain d cells broken
@@ -58,9 +42,9 @@ fails-decides {cells = cells} {dist} {broken} h s z hs hz x y = (λ e. go (isErr
     terminal = rw (terminals-are h) hz
 
     go : (b : Bool) → b ≡ isError (tablesOf cells .act s z) → cond b (hasCost dist s z) (hasCost broken s z) ≡ true → FailingPair (tablesOf cells) s z
-    go true i e = let (w, r) = exact-some (x .exact s z hs hz) .0 e in record { terminal = terminal; word = w; fails = errs r (is-error (tablesOf cells .act s z) (sym i)) }
+    go true i e = let (w, r) = exact-reached (x .exact s z hs hz) .0 e in record { terminal = terminal; word = w; fails = errs r (is-error (tablesOf cells .act s z) (sym i)) }
     go false i e = let (w, r) = breaks-decides s z hs hz y .0 e in record { terminal = terminal; word = w; fails = breaks r }
 
     back : {w : List ℕ} → FailsAt (tablesOf cells) s z w → failsIn cells dist broken s z ≡ true
-    back {w} (errs r e) = rw e (exact-some (x .exact s z hs hz) .1 (w, r))
+    back {w} (errs r e) = rw e (exact-reached (x .exact s z hs hz) .1 (w, r))
     back {w} (breaks b) = let (p, e) = breaks-reduce b in rw e (breaks-decides s z hs hz y .1 (w, b))

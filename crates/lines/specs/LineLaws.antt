@@ -1,12 +1,11 @@
 -- Laws of lines. Assumes nothing.
 use mathlib.Core.Bool.{Bool, not}
-use mathlib.Core.List.{List, [], _∷_, _++_, map, append-nil, append-assoc}
+use mathlib.Core.List.{List, [], _∷_, _++_, append-assoc}
 use mathlib.Core.Path.{_≡_, refl, sym, _∙_, ap, subst}
-use Prim.Native.Nat.{ℕ, _+_, _*_, _≤_, _<_}
-use native.Mathlib.Numerals.{add-one}
+use Prim.Native.Nat.{ℕ, _+_}
 use native.Mathlib.Omega.{arith}
-use lib.ListN.{length, take, getD, length-append}
-use lib.Seq.{sets, take-append-seam, take-suc}
+use lib.ListN.{length, take, length-append}
+use lib.Seq.{sets, take-append-seam}
 use Rattle.number.specs.Lent.{over}
 use Rattle.book.specs.Tables.{Tables}
 use Rattle.walk.specs.Answer.{Outcome, Best, WordsOf, Unreached as Never, Long as Far, Sentence as Word}
@@ -17,12 +16,10 @@ use Rattle.failing.specs.Failing.{isError}
 use Rattle.finder.specs.Finder.{Answered, found, sentenceOf}
 use Rattle.finder.specs.declared.Found.{Found}
 use Rattle.text.specs.Decimal.{decimal}
-use Rattle.text.specs.DecimalLaws.{decimal-byte}
 use Rattle.lines.specs.Line.{told, pairLine, PairListed}
 use Rattle.text.specs.Text.{spaced, line}
 use Rattle.lines.specs.Parts.{words, Fitting}
 use Rattle.text.specs.Put.{Put}
-use Rattle.text.specs.PutLaws.{put-then}
 
 -- pieces one after the other are a line
 pub pair-words : (a b : List ℕ) (ws : List (List ℕ)) → (a ++ 32 ∷ b) ++ (spaced ws ++ 10 ∷ []) ≡ line a (b ∷ ws)

@@ -1,7 +1,7 @@
 -- The map and the sets of books that differ in no more than form and ranks are the same. Assumes nothing.
 use mathlib.Core.List.{List}
 use mathlib.Core.Path.{_≡_, _∙_, ap}
-use Prim.Native.Nat.{ℕ, _*_, _<_}
+use Prim.Native.Nat.{ℕ, _*_}
 use lib.ListN.{length}
 use Rattle.number.specs.Lent.{over}
 use Rattle.book.specs.CallLaws.{concludes-alike}

@@ -1,13 +1,11 @@
 -- Laws of the sets: they are read off exact distances, and written one after the other. Assumes nothing.
 use mathlib.Core.Bool.{true}
 use mathlib.Core.List.{List, [], _∷_}
-use mathlib.Core.Logic.{_↔_, ⊎-elim}
+use mathlib.Core.Logic.{_↔_}
 use mathlib.Core.Path.{_≡_, refl, sym, _∙_, ap}
 use Prim.Native.Nat.{ℕ, _+_, _≤_, _<_}
 use native.Mathlib.Numerals.{add-one}
 use native.Mathlib.Omega.{arith}
-use borrow.Author.Tests.{lt-ltb, ltb-true}
-use lib.Dec.{ltb}
 use lib.ListN.{length, getD, set, length-set}
 use lib.Seq.{getD-take, getD-drop}
 use Rattle.number.specs.Lent.{over, firsts}
@@ -18,8 +16,8 @@ use Rattle.book.specs.Tables.{tablesOf}
 use Rattle.machine.specs.Machine.{Reaches}
 use Rattle.sets.specs.Set.{setOf}
 use Rattle.sets.specs.Bits.{below}
+use Rattle.walk.specs.CostLaws.{exact-reached}
 use Rattle.walk.specs.Scale.{plain, unreached}
-use Rattle.walk.specs.Cost.{Exact}
 use Rattle.layers.specs.Layer.{entryIn}
 use Rattle.distances.specs.Distances.{StartTable}
 use Rattle.maps.specs.Admitted.{Gathered}
@@ -49,12 +47,6 @@ module _ {f : ℕ → ℕ} {lent : List ℕ} where
   }
 
 -- ---- what is reached
-exact-reached : {P : List ℕ → Type 0} {v : ℕ} → Exact plain P v → (ltb v (unreached plain) ≡ true) ↔ ((w : List ℕ) × P w)
-exact-reached {v} x = (
-  λ e. ⊎-elim (λ u. absurd (omega (arith, ltb-true v (unreached plain) e))) (λ (w, p, u). (w, p)) (x .attained),
-  λ (w, p). lt-ltb v (unreached plain) (omega (arith, x .least w p)),
-)
-
 row-entry : (dist : List ℕ) (t q z : ℕ) → z < t → getD (row dist t q) z 0 ≡ entryIn dist q z
 unfolding entryIn
 row-entry dist t q z h = rw (getD-take, getD-drop)

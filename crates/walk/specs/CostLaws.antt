@@ -1,4 +1,5 @@
 -- Laws of costs on any scale: of capped sums, and that at most one number is exact for a set of words. Assumes nothing.
+use mathlib.Core.Bool.{true}
 use mathlib.Core.Path.{_≡_, refl}
 use mathlib.Core.List.{List, [], _∷_, _++_}
 use mathlib.Core.Logic.{inl, inr, ⊎-elim, _↔_}
@@ -6,8 +7,9 @@ use Prim.Native.Nat.{ℕ, _+_, _≤_, _<_, max}
 use native.Mathlib.Nat.{le-antisymm}
 use native.Mathlib.Decide.{decLt}
 use native.Mathlib.Omega.{arith}
+use lib.Dec.{ltb}
 use lib.ListN.{length}
-use borrow.Author.Tests.{lt-ltb, le-ltb, le-leb, lt-leb}
+use borrow.Author.Tests.{lt-ltb, le-ltb, ltb-true, le-leb, lt-leb}
 use Rattle.walk.specs.Scale.{Scale, long, unreached, cap}
 use Rattle.walk.specs.Cost.{cost, Attained, Exact}
 use Rattle.walk.specs.Sum.{plus, cut}
@@ -177,3 +179,10 @@ module _ {σ : Scale} {P : List ℕ → Type 0} where
 
   pub exact-none : Exact σ P (unreached σ) ↔ ((w : List ℕ) → P w → ⊥)
   exact-none = (λ e w p. omega (arith, e .least w p), λ f. record { least = λ w p. absurd (f w p); attained = inl refl })
+
+  -- and below unreached there is a word
+  pub exact-reached : {v : ℕ} → Exact σ P v → (ltb v (unreached σ) ≡ true) ↔ ((w : List ℕ) × P w)
+  exact-reached {v} x = (
+    λ e. ⊎-elim (λ u. absurd (omega (arith, ltb-true v (unreached σ) e))) (λ (w, p, u). (w, p)) (x .attained),
+    λ (w, p). lt-ltb v (unreached σ) (omega (arith, x .least w p)),
+  )

@@ -1,7 +1,5 @@
 -- `finder::breaking::break_reduce` meets its contract: the least cost to go from the start is that of the shortest break. Assumes nothing.
-use mathlib.Core.Path.{_≡_}
 use native.Mathlib.Omega.{arith}
-use Prim.Native.Nat.{_≤_}
 use Rattle.layers.specs.CrossingLaws.{left-below, length-below}
 use Rattle.finder.specs.PairLaws.{broken-guides, broken-exact}
 use borrow.Author.Needs.{needs}

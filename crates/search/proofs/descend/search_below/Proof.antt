@@ -6,7 +6,6 @@ use Rattle.walk.specs.FillLaws.{filled-size}
 use Rattle.waiting.specs.EventLaws.{event-none}
 use Rattle.waiting.specs.ExpandLaws.{holds-narrow}
 use Rattle.search.specs.SearchLaws.{descent-start}
-use borrow.Author.Needs.{needs}
 use Rattle.search.proofs.descend.search_below.Statement.{statement}
 use Rattle.search.proofs.descend.search_below.Tie as tie
 
