@@ -23,14 +23,15 @@
  *
  * Call stack. purlquartz_find and purlquartz_find_break use less than 700,000 bytes of it;
  * purlquartz_judge less than 80,000; purlquartz_map, purlquartz_sets and
- * purlquartz_check_certificate less than 60,000; purlquartz_run less than 25,000; every other call
- * less than 1,000. These are rounded up from what was measured.
+ * purlquartz_check_certificate less than 60,000; purlquartz_run and purlquartz_sort_list less than
+ * 25,000; every other call less than 1,000. These are rounded up from what was measured.
  *
  * Answers. Every call fills answer[0] to answer[7]: answer[0] is the kind, the others its values,
  * unused ones 0. The answer must not be null, and must overlap no slice. Kind 0 is a refusal,
  * answer[1] its number and answer[2] its place; then no lent memory but the answer has changed.
  * All inputs are checked before anything else happens, in the order: the book's cells or bytes;
- * the list, sentence or certificate; then 17, 10, 11, 13, 12.
+ * the list, sentence or certificate; then 17, 10, 11, 13, 12. The 12 of purlquartz_sort_list alone
+ * comes later, once it is known that there is a result.
  *
  *   number  cause                                              place
  *   1   a book, list or part of a certificate stops before a   where the missing number begins
@@ -107,6 +108,10 @@ extern "C" {
 #define PURLQUARTZ_UNCOVERED 2u
 #define PURLQUARTZ_REPEAT 3u
 #define PURLQUARTZ_WRONG 4u
+#define PURLQUARTZ_OUT_OF_ORDER 5u
+
+/* answer[0] of purlquartz_sort_list, besides PURLQUARTZ_REPEAT and PURLQUARTZ_WRONG. */
+#define PURLQUARTZ_SORTED 1u
 
 /* answer[0] of purlquartz_check_certificate, and answer[1] of a fault. */
 #define PURLQUARTZ_CERTIFICATE_ACCEPTED 1u
@@ -290,7 +295,8 @@ void purlquartz_next_entry(const uint8_t *list, size_t list_count,
 
 /*
  * Judges a list. An entry is wrong if its run ends neither as error nor as broken with the whole
- * sentence in, and repeats if it ends in the state of an earlier one; the first such entry is told.
+ * sentence in; else it is out of order if it ends in a lower state than the entry before it; else
+ * it repeats if it ends in the state of an earlier one. The first entry with such a fault is told.
  * Without one the list is complete if every state with a failing pair has its entry. A failing pair
  * is one whose action is error and that some sequence reaches, however long, or one whose action is
  * reduce and where some sequence, however long, makes that break: purlquartz_find_break then does
@@ -298,7 +304,8 @@ void purlquartz_next_entry(const uint8_t *list, size_t list_count,
  * are zero afterwards.
  * Kinds: 1 complete; 2 uncovered, answer[1] is the lowest state with a failing pair and no entry;
  * 3 repeat, answer[1] is the entry; 4 wrong, answer[1] is the entry, answer[2] the kind of its
- * run's ending as in purlquartz_run, answer[3] to answer[5] its state, symbol and taken.
+ * run's ending as in purlquartz_run, answer[3] to answer[5] its state, symbol and taken; 5 out of
+ * order, answer[1] is the entry.
  * Refusals: those of purlquartz_check_list; 13 if too few work or stack cells are lent.
  */
 void purlquartz_judge(const uint16_t *cells, size_t cell_count,
@@ -306,6 +313,21 @@ void purlquartz_judge(const uint16_t *cells, size_t cell_count,
                       uint16_t *work, size_t work_count,
                       uint16_t *stack, size_t stack_count,
                       uint64_t answer[8]);
+
+/*
+ * Sorts a list: writes its entries to the first lent bytes in ascending order of the state where
+ * they fail; the bytes after them keep their values. They may come in any order, but none may be
+ * wrong or repeat, as purlquartz_judge has it. The result is a list of as many bytes; lists with
+ * the same entries are written alike, and one that is in order as it is.
+ * Kinds: 1 sorted, answer[1] is how many bytes were written; 3 repeat and 4 wrong, the first entry
+ * that is so, with the values of purlquartz_judge, and then no lent byte has changed.
+ * Refusals: those of purlquartz_check_list; 12 if there is a result and it has more bytes than are
+ * lent.
+ */
+void purlquartz_sort_list(const uint16_t *cells, size_t cell_count,
+                          const uint8_t *list, size_t list_count,
+                          uint8_t *bytes, size_t byte_count,
+                          uint64_t answer[8]);
 
 /*
  * Checks a certificate, whoever made it. What is accepted is the book's map: the claims for pairs

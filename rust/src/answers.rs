@@ -156,6 +156,19 @@ pub enum Judgement {
     Repeat { entry: usize },
     /// The entry's run ends neither as error nor as broken with the whole sentence in.
     Wrong { entry: usize, ending: Ending },
+    /// The entry fails in a lower state than the one before it.
+    OutOfOrder { entry: usize },
+}
+
+/// What [`sort_list`](crate::sort_list()) says of a list. Entries are counted from 0.
+#[derive(Clone, Copy, Debug, PartialEq, Eq)]
+pub enum Sorted {
+    /// The first so many lent bytes are the list with its entries in state order.
+    List(usize),
+    /// As [`Judgement::Repeat`].
+    Repeat { entry: usize },
+    /// As [`Judgement::Wrong`].
+    Wrong { entry: usize, ending: Ending },
 }
 
 /// What the checker says of a certificate.

@@ -120,6 +120,15 @@ extern "C" {
         stack_count: usize,
         answer: *mut u64,
     );
+    fn purlquartz_sort_list(
+        cells: *const u16,
+        cell_count: usize,
+        list: *const u8,
+        list_count: usize,
+        bytes: *mut u8,
+        byte_count: usize,
+        answer: *mut u64,
+    );
     fn purlquartz_check_certificate(
         cells: *const u16,
         cell_count: usize,
@@ -341,6 +350,22 @@ pub(crate) fn judge(cells: &[u16], list: &[u8], work: &mut [u16], stack: &mut [u
             work.len(),
             stack.as_mut_ptr(),
             stack.len(),
+            answer.as_mut_ptr(),
+        )
+    }
+    answer
+}
+
+pub(crate) fn sort_list(cells: &[u16], list: &[u8], bytes: &mut [u8]) -> Answer {
+    let mut answer = [0; 8];
+    unsafe {
+        purlquartz_sort_list(
+            cells.as_ptr(),
+            cells.len(),
+            list.as_ptr(),
+            list.len(),
+            bytes.as_mut_ptr(),
+            bytes.len(),
             answer.as_mut_ptr(),
         )
     }

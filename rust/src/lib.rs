@@ -7,12 +7,14 @@
 //!
 //! All memory is lent by the caller. Each call checks its inputs whole before it writes anything,
 //! so that a refused call changes nothing. Refusals come in the order: the book's, those of the
-//! list, sentence or certificate, then 17, 10, 11, 13, 12.
+//! list, sentence or certificate, then 17, 10, 11, 13, 12. The 12 of [`sort_list`] alone comes
+//! later, once it is known that there is a result.
 //!
 //! A pair of a state and a lookahead *fails* if its action is error and some sequence of terminals
 //! reaches it, or if its action is reduce and with some sequence that reduction cannot be done.
 //! [`find`] and [`find_break`] answer the shortest such sentence, and [`judge`] whether a list has
-//! one for every state that has a failing pair.
+//! one for every state that has a failing pair. The entries of a list have to stand in ascending
+//! order of the state where they fail, which [`sort_list`] brings them into.
 //!
 //! A *certificate* shows that a map is a book's map: [`check_certificate`] looks whether it does,
 //! and [`certificate::make`] makes one.
@@ -212,10 +214,11 @@ pub fn entry(cells: &[u16], list: &[u8], index: usize) -> Result<Option<Entry>, 
     Ok(one_entry(&answer))
 }
 
-/// Judges a list: the first entry that is wrong or repeats a state, or else whether every state
-/// with a failing pair is covered. An entry is right if its run ends as error or as broken with the
-/// whole sentence in. The work cells are zero as after [`find`], and so are the first
-/// [`STACK_CELLS`] stack cells.
+/// Judges a list: the first entry that is wrong, or else out of order, or else repeats a state; or,
+/// if there is none, whether every state with a failing pair is covered. An entry is right if its
+/// run ends as error or as broken with the whole sentence in, and out of order if that is in a
+/// lower state than the one before it. The work cells are zero as after [`find`], and so are the
+/// first [`STACK_CELLS`] stack cells.
 ///
 /// Refusals: those of [`check_list`]; 13 if too few work or stack cells are lent.
 pub fn judge(
@@ -235,7 +238,32 @@ pub fn judge(
         },
         4 => Judgement::Wrong {
             entry: answer[1] as usize,
-            ending: ending(answer[2], [answer[3], answer[4], answer[5]]),
+            ending: wrong_ending(&answer),
+        },
+        5 => Judgement::OutOfOrder {
+            entry: answer[1] as usize,
+        },
+        kind => unknown(kind),
+    })
+}
+
+/// Writes a list to the first lent bytes with its entries in ascending order of the state where
+/// they fail, and answers how many. The bytes after them keep their values. The entries may come in
+/// any order, but none may be wrong or repeat a state: the first that is so is told as by
+/// [`judge`], and then no byte is written. The result has as many bytes as the list. Lists with the
+/// same entries are written alike, and one that is in order as it is.
+///
+/// Refusals: those of [`check_list`]; 12 if there is a result and it has more bytes than are lent.
+pub fn sort_list(cells: &[u16], list: &[u8], bytes: &mut [u8]) -> Result<Sorted, Refusal> {
+    let answer = accepted(foreign::sort_list(cells, list, bytes))?;
+    Ok(match answer[0] {
+        1 => Sorted::List(answer[1] as usize),
+        3 => Sorted::Repeat {
+            entry: answer[1] as usize,
+        },
+        4 => Sorted::Wrong {
+            entry: answer[1] as usize,
+            ending: wrong_ending(&answer),
         },
         kind => unknown(kind),
     })
@@ -305,6 +333,11 @@ fn one_entry(answer: &Answer) -> Option<Entry> {
         2 => None,
         kind => unknown(kind),
     }
+}
+
+/// How the run of a wrong entry ended.
+fn wrong_ending(answer: &Answer) -> Ending {
+    ending(answer[2], [answer[3], answer[4], answer[5]])
 }
 
 fn ending(kind: u64, [state, symbol, taken]: [u64; 3]) -> Ending {

@@ -12,6 +12,7 @@ mod independent;
 #[path = "../examples/make_book/lalr.rs"]
 mod lalr;
 mod random;
+mod shipped;
 
 use both::compare::{self, Outcome, Outcomes};
 use both::lent::Lent;
@@ -25,11 +26,13 @@ use random::books::{
 };
 use random::bytes::{damaged, damaged_cells};
 use random::grammars::long_book;
-use random::lists::{damaged_list, encode_list, lines, sentence, taken_sentence, Line};
+use random::lists::{
+    covering, damaged_list, encode_list, lines, sentence, taken_sentence, varied, Line,
+};
 use random::ranks::{in_every_order, ranked, unranked};
 use random::Random;
+use shipped::{shipped, SHIPPED};
 use std::collections::BTreeMap;
-use std::fs;
 
 /// How often each answer was seen, so that no test passes for want of cases.
 #[derive(Default)]
@@ -332,7 +335,8 @@ fn books_of_long_sentences() {
         compare_list(&mut random, &mut tally, &book, &cells, &list);
     }
     tally.expect("find", "Sentence Long Unreached");
-    tally.expect("judge", "Complete Uncovered Repeat Wrong");
+    tally.expect("judge", "Complete Uncovered Repeat Wrong OutOfOrder");
+    tally.expect("sort_list", "List Repeat Wrong 12");
 }
 
 /// The same books with reductions that break: many only after some hundred symbols, or over 1,000.
@@ -351,12 +355,8 @@ fn breaks_after_long_sentences() {
         compare_list(&mut random, &mut tally, &book, &cells, &list);
     }
     tally.expect("find_break", "Sentence Long None");
-    tally.expect("judge", "Complete Uncovered Repeat Wrong");
-}
-
-fn shipped(name: &str) -> Book {
-    let file = format!("{}/../books/{name}.book", env!("CARGO_MANIFEST_DIR"));
-    Book::from_bytes(&fs::read(file).expect("the book is shipped")).expect("a good book")
+    tally.expect("judge", "Complete Uncovered Repeat Wrong OutOfOrder");
+    tally.expect("sort_list", "List Repeat Wrong 12");
 }
 
 #[test]
@@ -471,6 +471,9 @@ fn compare_list(random: &mut Random, tally: &mut Tally, book: &Book, cells: &[u1
     let stack = lend(random, STACK_CELLS);
     let outcome = compare::judge(&LIBRARY, cells, list, &work, &stack);
     tally.note("judge", outcome, cells);
+    let bytes = lend(random, list.len());
+    let outcome = compare::sort_list(&LIBRARY, cells, list, &bytes);
+    tally.note("sort_list", outcome, cells);
 }
 
 #[test]
@@ -490,8 +493,31 @@ fn lists() {
     tally.expect("entry", "Some None 1 2 3 4 5 16 14 15 6 7 8 9 11");
     tally.expect("entries", " 1 2 3 4 5 16 14 15 6 7 8 9 11");
     tally.expect("next_entry", "Some None");
-    tally.expect("judge", "Complete Uncovered Repeat Wrong");
+    tally.expect("judge", "Complete Uncovered Repeat Wrong OutOfOrder");
     tally.expect("judge", "1 2 3 4 5 16 14 15 6 7 8 9 11 13");
+    tally.expect("sort_list", "List Repeat Wrong");
+    tally.expect("sort_list", "1 2 3 4 5 16 14 15 6 7 8 9 11 12");
+}
+
+/// Many lists for each book.
+#[test]
+fn lists_of_shipped_books() {
+    let mut random = Random::new(28);
+    let mut tally = Tally::default();
+    for name in SHIPPED {
+        let shipped = shipped(name);
+        let changed = breakable(&mut random, &shipped, 6);
+        for book in [shipped, changed] {
+            let covering = covering(&mut random, &book);
+            for _ in 0..60 {
+                let lines = varied(&mut random, &book, covering.clone());
+                let list = encode_list(&lines);
+                compare_list(&mut random, &mut tally, &book, &book.cells(), &list);
+            }
+        }
+    }
+    tally.expect("judge", "Complete Uncovered Repeat Wrong OutOfOrder");
+    tally.expect("sort_list", "List Repeat Wrong 12");
 }
 
 /// Lists for books where reductions break: many entries end as broken, and many states have no
@@ -515,7 +541,8 @@ fn lists_of_books_that_break() {
         compare_list(&mut random, &mut tally, &book, &book.cells(), &list);
     }
     assert!(broken > 3_000);
-    tally.expect("judge", "Complete Uncovered Repeat Wrong");
+    tally.expect("judge", "Complete Uncovered Repeat Wrong OutOfOrder");
+    tally.expect("sort_list", "List Repeat Wrong 12");
 }
 
 /// Whether the run of an entry ends as broken with the whole sentence in.
@@ -673,6 +700,51 @@ mod faults {
             let one = compare::find_break(&subject, &broken.cells(), (1, 3), &work, &buffer);
             assert!(one.is_err());
         }
+    }
+
+    fn sort_bracket(subject: &Calls, lines: &[Line]) -> Outcome {
+        let bytes = Lent::holding(&[7; 20]);
+        compare::sort_list(subject, &bracket(), &encode_list(lines), &bytes)
+    }
+
+    fn left_as_it_is(_: &[u16], list: &[u8], bytes: &mut [u8]) -> Result<Sorted, Refusal> {
+        bytes[..list.len()].copy_from_slice(list);
+        Ok(Sorted::List(list.len()))
+    }
+
+    fn byte_after_list(cells: &[u16], list: &[u8], bytes: &mut [u8]) -> Result<Sorted, Refusal> {
+        let answer = (INDEPENDENT.sort_list)(cells, list, bytes);
+        bytes[list.len()] = 0;
+        answer
+    }
+
+    /// Also where there is no result.
+    fn byte_in_any_case(cells: &[u16], list: &[u8], bytes: &mut [u8]) -> Result<Sorted, Refusal> {
+        bytes[0] = list[0];
+        (INDEPENDENT.sort_list)(cells, list, bytes)
+    }
+
+    /// Entries in the states 0 and 2 in either order, and twice the one.
+    #[test]
+    fn a_wrong_sorting_is_noticed() {
+        let [start, open] = [(vec![], 0), (vec![2], 0)];
+        let lists = [[0, 1], [1, 0], [1, 1]].map(|order| {
+            let lines = order.map(|at| [&start, &open][at].clone());
+            lines.to_vec()
+        });
+        let noticed = |sort_list| {
+            let subject = Calls {
+                sort_list,
+                ..INDEPENDENT
+            };
+            lists
+                .each_ref()
+                .map(|lines| sort_bracket(&subject, lines).is_err())
+        };
+        assert_eq!(noticed(INDEPENDENT.sort_list), [false, false, false]);
+        assert_eq!(noticed(left_as_it_is), [false, true, true]);
+        assert_eq!(noticed(byte_after_list), [true, true, true]);
+        assert_eq!(noticed(byte_in_any_case), [false, false, true]);
     }
 
     fn cell_after_book(cells: &[u16], lent: &mut [u16]) -> Result<usize, Refusal> {

@@ -66,6 +66,8 @@ struct ListAnswers {
     entries: Result<Vec<Entry>, Refusal>,
     second: Result<Option<Entry>, Refusal>,
     judgement: Result<Judgement, Refusal>,
+    /// With the bytes written.
+    sorted: (Result<Sorted, Refusal>, Vec<u8>),
 }
 
 fn answers(calls: &Calls, cells: &[u16], questions: &Questions) -> Answers {
@@ -86,6 +88,7 @@ fn answers(calls: &Calls, cells: &[u16], questions: &Questions) -> Answers {
         entries: (calls.entries)(cells, list),
         second: (calls.entry)(cells, list, 1),
         judgement: (calls.judge)(cells, list, &mut work, &mut [0; STACK_CELLS]),
+        sorted: sorted(calls, cells, list),
     });
     Answers {
         map,
@@ -94,6 +97,12 @@ fn answers(calls: &Calls, cells: &[u16], questions: &Questions) -> Answers {
         runs: runs.collect(),
         lists: lists.collect(),
     }
+}
+
+fn sorted(calls: &Calls, cells: &[u16], list: &[u8]) -> (Result<Sorted, Refusal>, Vec<u8>) {
+    let mut bytes = vec![0; list.len()];
+    let answer = (calls.sort_list)(cells, list, &mut bytes);
+    (answer, bytes)
 }
 
 /// What the finders say of a pair and of its reduction, and both sentences.

@@ -1,10 +1,10 @@
-// Lists of the second finder's sentences, which the library judges. A list has an entry for each state that fails, but for one that is left out.
-ghost use Prim.Native.Nat.{_+_, _*_, _≤_, _<_};
+// Lists of the second finder's sentences, which the library judges. A list has an entry for each state that fails, in state order, but for one that is left out.
+ghost use Prim.Native.Nat.{_+_, _≤_, _<_};
 use crate::pops::UNREACHED;
 use crate::tables;
 use crate::verdicts;
 use crate::wrong;
-use judgement::Judgement;
+use course::Judgement;
 
 // The most bytes of a list, and the most symbols of an entry.
 const ROOM: usize = 4096;
@@ -172,6 +172,7 @@ pub fn state_of(cells: &[u16], list: &[u8]) -> usize {
     match judgement::judge(cells, list, &mut work, &mut stack) {
         Judgement::Refused(_) => FAULT,
         Judgement::Wrong(_, _) => FAULT,
+        Judgement::OutOfOrder(_) => FAULT,
         Judgement::Repeat(_) => FAULT,
         Judgement::Uncovered(s) => tables::wide(s),
         Judgement::Complete => NO_STATE,

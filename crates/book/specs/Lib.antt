@@ -14,6 +14,5 @@ pub mod RangeLaws
 pub mod RoundTripLaws
 pub mod RowLaws
 pub mod SeenLaws
-pub mod SizeLaws
 pub mod Tables
 pub mod TablesLaws

@@ -1,15 +1,17 @@
--- Reading and writing a book undo each other. Assumes nothing.
+-- Reading and writing a book undo each other, and what is written are bytes. Assumes nothing.
 use mathlib.Core.Path.{_≡_, refl, sym, _∙_}
 use mathlib.Core.List.{List, [], _∷_, _++_, append-assoc, append-nil, nil≢cons}
-use Prim.Native.Nat.{ℕ, zero, suc, _+_, _≤_, _<_}
+use Prim.Native.Nat.{ℕ, zero, suc, _+_, _/_, _%_, _≤_, _<_}
+use native.Mathlib.Decide.{decLt}
 use native.Mathlib.Nat.{add-assoc, add-zero, zero-add}
 use native.Mathlib.Numerals.{add-one}
 use native.Mathlib.Omega.{arith}
 use borrow.Author.Tests.{lt-ltb, le-ltb, eq-eqb}
 use lib.ListN.{length, getD, drop, length-append, drop-of-length-le}
 use lib.Seq.{drop-cons, drop-drop, drop-append-seam, getD-drop}
-use Rattle.number.specs.Number.{numberAt, written, first, value}
+use Rattle.number.specs.Number.{numberAt, groups, written, first, value}
 use Rattle.number.specs.NumberLaws.{Bytes, first-written, first-stands}
+use Rattle.number.specs.TestLaws.{tests}
 use Rattle.number.specs.declared.Cursor.{Cursor}
 use Rattle.number.specs.declared.Number.{Number}
 use Rattle.number.specs.declared.Number.the-variants.{Value}
@@ -170,3 +172,25 @@ written-read bytes cells next b e =
     let all : bytes ≡ bytesOf cells = p ∙ rw (end, append-nil) in
     let i = rw zero-add at (cells-reads cells 0 cells refl (omega arith)) in
     (sym all, book-other (numberAt bytes) (cellAt cells) (length bytes) (length cells) cells next (length cells) e i (omega arith))
+
+-- ---- what is written are bytes
+below-cons : (m x : ℕ) (a : List ℕ) → x < m → ((i : ℕ) → getD a i 0 < m) → (i : ℕ) → getD (x ∷ a) i 0 < m
+below-cons m x a h f zero = h
+below-cons m x a h f (suc i) = f i
+
+pub below-append : (m : ℕ) (a b : List ℕ) → ((i : ℕ) → getD a i 0 < m) → ((i : ℕ) → getD b i 0 < m) → (i : ℕ) → getD (a ++ b) i 0 < m
+below-append m [] b f g = g
+below-append m (x ∷ a) b f g = below-cons m x (a ++ b) (f 0) (below-append m a b (λ i. f (suc i)) g)
+
+groups-bytes : (k n : ℕ) → Bytes (groups k n)
+groups-bytes zero n = λ i. omega arith
+groups-bytes (suc k) n = go (decLt n 128) (groups-bytes k (n / 128))
+  where
+    go : Dec (n < 128) → Bytes (groups k (n / 128)) → Bytes (groups (suc k) n)
+    go (yes h) r = simp tests (below-cons 256 n [] (omega arith) (λ i. omega arith))
+    go (no h) r = rw (le-ltb n 128 (omega arith)) (below-cons 256 (n % 128 + 128) (groups k (n / 128)) (omega arith) r)
+
+pub numbers-bytes : (vs : List ℕ) → Bytes (bytesOf vs)
+unfolding written
+numbers-bytes [] = λ i. omega arith
+numbers-bytes (v ∷ vs) = below-append 256 (written v) (bytesOf vs) (groups-bytes 3 v) (numbers-bytes vs)

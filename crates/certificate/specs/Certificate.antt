@@ -1,7 +1,8 @@
 -- A certificate: its claims, the conditions in their order, where each fails, and which verdict is right. Assumes nothing.
 use Rattle.number.specs.Words.{Bool, true, false, _&&_, List, [], length, getD, _⊎_, _≡_, _≢_, ℕ, _+_, _*_, _<_, _≤_, eqb}
 use Rattle.book.specs.{Tables.Tables, declared.Action.Action}
-use Rattle.machine.specs.{Machine.Reaches, Within.reachesWithin}
+use Rattle.machine.specs.Machine.{Reaches}
+use Rattle.within.specs.Within.{reachesWithin}
 use Rattle.walk.specs.{Scale.plain, Scale.long, Scale.unreached, Cost.Exact, Road.Crosses, Road.Claims, Road.Claimed, Road.Longer}
 use Rattle.certificate.specs.declared.{Condition.Condition, Verdict.Verdict}
 

@@ -22,8 +22,8 @@ use Rattle.walk.specs.Claims.{Crosses, Claimed, none, shifting, crossing, Close
 use Rattle.walk.specs.ShortestLaws.{cost-length}
 use Rattle.walk.specs.ClaimsLaws.{claimed-next, claimed-terminal, closed-below, witnessed-above}
 use Rattle.walk.specs.Layers.{Longer, add-shift, add-goto}
-use Rattle.machine.specs.Within.{reachesWithin}
-use Rattle.machine.specs.WithinLaws.{within-reaches}
+use Rattle.within.specs.Within.{reachesWithin}
+use Rattle.within.specs.WithinLaws.{within-reaches}
 use Rattle.certificate.specs.Certificate.{Certificate, crossingAt, crossingCount, pairAt, Road, order, AtPair, Fails, Judged, accepts, faults, TrueMap, True}
 use Rattle.certificate.specs.declared.Condition.{Condition}
 use Rattle.certificate.specs.declared.Condition.the-variants.{Range, Roads, Start, Transitions, Short, Sentences}

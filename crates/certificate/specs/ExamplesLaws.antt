@@ -9,7 +9,7 @@ use Rattle.book.specs.Range.{allowed, fits, fault, faultNumber}
 use Rattle.book.specs.Tables.{sizesOf, tablesOf}
 use Rattle.machine.specs.Machine.{next}
 use Rattle.machine.specs.Run.{reducing}
-use Rattle.machine.specs.Within.{comes, brings}
+use Rattle.within.specs.Within.{comes, brings}
 use Rattle.lists.specs.Entry.{outside}
 use Rattle.walk.specs.Sum.{plus}
 use Rattle.certificate.specs.Certificate.{certificateIn}

@@ -14,11 +14,11 @@ use book::Sizes;
 use lists::admit;
 use lists::symbol_row;
 use machine::DEPTH;
-use machine::reaches;
 use number::Cursor;
 use number::Number;
 use number::Refusal;
 use walk::LIMIT;
+use within::reaches;
 
 // The sentence at an offset; answers where it ends, or refusal 1, 2, 7 or 8 with its offset.
 fn sentence_at(bytes: &[u8], at: usize, t: usize) -> Number

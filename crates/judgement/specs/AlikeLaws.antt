@@ -10,9 +10,9 @@ use Rattle.forms.specs.AlikeLaws.{Alike, alike-tables, alike-sizes}
 use Rattle.work.specs.Work.{cleared}
 use Rattle.lists.specs.List.{Listed, refused, entries, listIn}
 use Rattle.lists.specs.ListLaws.{list-alike}
+use Rattle.course.specs.declared.Judgement.{Judgement}
+use Rattle.course.specs.declared.Judgement.the-variants.{Refused}
 use Rattle.judgement.specs.Judgement.{judgeRefusals, JudgedIn, Judges}
-use Rattle.judgement.specs.declared.Judgement.{Judgement}
-use Rattle.judgement.specs.declared.Judgement.the-variants.{Refused}
 
 module _ (d e : Sizes) (cells other : List ℕ) (a : Alike d e cells other) where
   list-same : (bytes : List ℕ) → listIn cells bytes ≡ listIn other bytes

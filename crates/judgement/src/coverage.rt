@@ -8,8 +8,8 @@ ghost use Rattle.layers.specs.Crossing.{room};
 ghost use Rattle.crossings.specs.Crossings.{Beyond};
 ghost use Rattle.judgement.specs.Coverage.{stateFails, lacksIn, Covered};
 ghost use Rattle.judgement.specs.Judgement.{lowestState};
-use crate::Judgement;
 use book::Sizes;
+use course::Judgement;
 use crossings::crossings_with;
 use failing::failures;
 use failing::pair_fails;
@@ -39,14 +39,14 @@ fn lacks(
     d: Sizes,
     dist: &[u16; 4096],
     broken: &[u16; 4096],
-    flags: &[u8; 128],
+    places: &[usize; 128],
     q: usize,
 ) -> bool
     requires { ⌜ Holds d (now cells) ⌝ }
     requires { ⌜ q < d .s ⌝ }
-    ensures { λ r. ⌜ r ≡ lacksIn (stateFails (now (cells .entry)) (now (dist .entry)) (now (broken .entry)) (d .t)) (now (flags .entry)) q ⌝ }
+    ensures { λ r. ⌜ r ≡ lacksIn (stateFails (now (cells .entry)) (now (dist .entry)) (now (broken .entry)) (d .t)) (now (places .entry)) q ⌝ }
 {
-    if flags[q] != 0 {
+    if places[q] != 0 {
         return false;
     }
     fails(cells, d, dist, broken, q)
@@ -57,15 +57,15 @@ fn lowest_lacking(
     d: Sizes,
     dist: &[u16; 4096],
     broken: &[u16; 4096],
-    flags: &[u8; 128],
+    places: &[usize; 128],
 ) -> Judgement
     requires { ⌜ Holds d (now cells) ⌝ }
-    ensures { λ r. ⌜ r ≡ lowestState (lacksIn (stateFails (now (cells .entry)) (now (dist .entry)) (now (broken .entry)) (d .t)) (now (flags .entry))) (d .s) 0 ⌝ }
+    ensures { λ r. ⌜ r ≡ lowestState (lacksIn (stateFails (now (cells .entry)) (now (dist .entry)) (now (broken .entry)) (d .t)) (now (places .entry))) (d .s) 0 ⌝ }
 {
     let states = d.s;
     let mut q: usize = 0;
     while q < states {
-        if lacks(cells, d, dist, broken, flags, q) {
+        if lacks(cells, d, dist, broken, places, q) {
             return Judgement::Uncovered(q as u16);
         }
         q += 1;
@@ -73,11 +73,11 @@ fn lowest_lacking(
     Judgement::Complete
 }
 
-// The judgement of a list without a fault, where the states of its entries are flagged.
-pub fn cover(cells: &[u16], d: Sizes, flags: &[u8; 128], work: &mut [u16]) -> Judgement
+// The judgement of a list without a fault, where the states of its entries have places.
+pub fn cover(cells: &[u16], d: Sizes, places: &[usize; 128], work: &mut [u16]) -> Judgement
     requires { ⌜ Holds d (now cells) ⌝ }
     requires { ⌜ room d ≤ length (now work) ⌝ }
-    ensures { λ r. ⌜ Covered (tablesOf (now (cells .entry))) (now (flags .entry)) r ⌝ }
+    ensures { λ r. ⌜ Covered (tablesOf (now (cells .entry))) (now (places .entry)) r ⌝ }
     ensures { λ _. ⌜ Beyond (room d) (now (work .entry)) (now (work .exit)) ⌝ }
 {
     let mut rows = [0u8; 4096];
@@ -86,5 +86,5 @@ pub fn cover(cells: &[u16], d: Sizes, flags: &[u8; 128], work: &mut [u16]) -> Ju
     let mut broken = [UNREACHED; 4096];
     crossings_with(cells, d, work, &rows, &mut dist, &mut broken);
     failures(cells, d, work, &rows, &mut dist, &mut broken);
-    lowest_lacking(cells, d, &dist, &broken, flags)
+    lowest_lacking(cells, d, &dist, &broken, places)
 }

@@ -1,4 +1,5 @@
 // A whole list: the checks, the entries in turn, then the states without one.
+ghost use mathlib.Core.Bool.{true};
 ghost use mathlib.Core.Path.{_≡_};
 ghost use Prim.Native.Nat.{_≤_};
 ghost use lib.ListN.{length, drop};
@@ -6,23 +7,23 @@ ghost use Rattle.book.specs.Tables.{tablesOf};
 ghost use Rattle.book.specs.TablesLaws.{Accepted, Holds};
 ghost use Rattle.layers.specs.Crossing.{room};
 ghost use Rattle.crossings.specs.Crossings.{Beyond};
-ghost use Rattle.lists.specs.List.{listIn, listing};
+ghost use Rattle.lists.specs.List.{listOf, listing};
 ghost use Rattle.lists.specs.declared.Listing.the-variants.{Entries};
+ghost use Rattle.course.specs.Turns.{EntriesStanding, courseAt};
 ghost use Rattle.judgement.specs.Judgement.{Judged, Judges};
-ghost use Rattle.judgement.specs.Turns.{EntriesStanding, courseAt};
-use crate::Faults;
-use crate::Judgement;
 use crate::admission::admit_room;
 use crate::coverage::cover;
-use crate::entries::judge_entries;
 use book::Checked;
 use book::Sizes;
+use course::Faults;
+use course::Judgement;
+use course::judge_entries;
 use forms::PLAIN;
 use forms::plain_cells;
 use forms::plain_sizes;
 use lists::Listing;
 use lists::Rest;
-use lists::check_list;
+use lists::check_entries;
 use machine::DEPTH;
 use work::clear;
 use work::work_cells;
@@ -41,14 +42,14 @@ fn judge_plain(
     requires { ⌜ EntriesStanding (d .t) (now list) first count ⌝ }
     requires { ⌜ room d ≤ length (now work) ⌝ }
     requires { ⌜ 1024 ≤ length (now stack) ⌝ }
-    ensures { λ r. ⌜ Judged (tablesOf (now (cells .entry))) (courseAt (tablesOf (now (cells .entry))) (d .t) (now (list .entry)) first count) r ⌝ }
+    ensures { λ r. ⌜ Judged (tablesOf (now (cells .entry))) (courseAt true (tablesOf (now (cells .entry))) (d .t) (now (list .entry)) first count) r ⌝ }
     ensures { λ _. ⌜ Beyond (room d) (now (work .entry)) (now (work .exit)) ⌝ }
     ensures { λ _. ⌜ drop 1024 (now (stack .exit)) ≡ drop 1024 (now (stack .entry)) ⌝ }
 {
-    let mut flags = [0u8; 128];
-    match judge_entries(cells, d, list, first, count, &mut flags, stack) {
+    let mut places = [0usize; 128];
+    match judge_entries(cells, d, list, first, count, true, &mut places, stack) {
         Faults::First(j) => j,
-        Faults::None => cover(cells, d, &flags, work),
+        Faults::None => cover(cells, d, &places, work),
     }
 }
 
@@ -66,7 +67,7 @@ fn judge_from(
     requires { ⌜ EntriesStanding (d .t) (now list) first count ⌝ }
     requires { ⌜ room d ≤ length (now work) ⌝ }
     requires { ⌜ 1024 ≤ length (now stack) ⌝ }
-    ensures { λ r. ⌜ Judged (tablesOf (now (cells .entry))) (courseAt (tablesOf (now (cells .entry))) (d .t) (now (list .entry)) first count) r ⌝ }
+    ensures { λ r. ⌜ Judged (tablesOf (now (cells .entry))) (courseAt true (tablesOf (now (cells .entry))) (d .t) (now (list .entry)) first count) r ⌝ }
     ensures { λ _. ⌜ Beyond (room d) (now (work .entry)) (now (work .exit)) ⌝ }
     ensures { λ _. ⌜ drop 1024 (now (stack .exit)) ≡ drop 1024 (now (stack .entry)) ⌝ }
 {
@@ -85,7 +86,7 @@ fn judge_list(
     stack: &mut [u16],
 ) -> Judgement
     requires { ⌜ Accepted d (now cells) ⌝ }
-    requires { ⌜ listing (now list) (listIn (now cells) (now list)) ≡ Entries rest ⌝ }
+    requires { ⌜ listing (now list) (listOf (d .t) (now list)) ≡ Entries rest ⌝ }
     ensures { λ r. ⌜ Judges (now (cells .entry)) (now (list .entry)) (now (work .entry)) (now (stack .entry)) (r, (now (work .exit), now (stack .exit))) ⌝ }
 {
     match admit_room(d, work.len(), stack.len()) {
@@ -113,7 +114,7 @@ fn judge_against(
     requires { ⌜ Accepted d (now cells) ⌝ }
     ensures { λ r. ⌜ Judges (now (cells .entry)) (now (list .entry)) (now (work .entry)) (now (stack .entry)) (r, (now (work .exit), now (stack .exit))) ⌝ }
 {
-    match check_list(cells, list) {
+    match check_entries(list, d.t) {
         Listing::Refused(r) => Judgement::Refused(r),
         Listing::Entries(rest) => judge_list(cells, d, list, rest, work, stack),
     }

@@ -4,5 +4,3 @@ pub mod Line
 pub mod LineLaws
 pub mod StateLaws
 pub mod Parts
-pub mod Prepare
-pub mod PrepareLaws

@@ -1,14 +1,12 @@
 // The lines of a listing: the header's counts, and each line's bytes.
 mod counts;
 mod line;
-mod opening;
 mod state;
 
 pub use counts::header_counts;
 pub use line::put_header;
 pub use line::put_pair;
 pub use line::put_refusal;
-pub use opening::prepare;
 pub use state::put_state;
 
 // The header's counts: lines and failing pairs.

@@ -9,6 +9,7 @@ pub use entries::entry_at;
 pub use entries::symbol_row;
 pub use entries::symbols;
 pub use index::nth_entry;
+pub use list::check_entries;
 pub use list::check_list;
 pub use list::next_at;
 use number::Cursor;

@@ -55,7 +55,8 @@ fn close(last: Number, first: usize, count: usize, end: usize) -> Listing
     }
 }
 
-fn check_entries(list: &[u8], t: usize) -> Listing
+// Where the first entry of a list over t terminals begins and how many there are, or the refusal.
+pub fn check_entries(list: &[u8], t: usize) -> Listing
     ensures { λ r. ⌜ r ≡ listing (now (list .entry)) (listOf t (now (list .entry))) ⌝ }
 {
     match admit(Cursor { at: 0 }.read(list), 0, 129, 9, 0) {

@@ -2,11 +2,8 @@ pub mod AdmissionLaws
 pub mod DrivingLaws
 pub mod Machine
 pub mod MachineLaws
-pub mod ReachingLaws
 pub mod ReducingLaws
 pub mod Run
 pub mod RunLaws
 pub mod Stack
 pub mod StackLaws
-pub mod Within
-pub mod WithinLaws

@@ -2,15 +2,16 @@
 mod admission;
 mod driver;
 mod looks;
-mod reaching;
 mod reductions;
 
 ghost use mathlib.Core.Path.{_≡_};
 ghost use Rattle.machine.specs.Run.{stopOf, running};
 use book::Checked;
 pub use driver::drive;
+pub use driver::take_in;
+pub use looks::look;
 use number::Refusal;
-pub use reaching::reaches;
+pub use reductions::REDUCTIONS;
 
 // How many states a run can stack.
 pub const DEPTH: usize = 1024;
@@ -37,7 +38,7 @@ pub enum Ran {
 }
 
 // What the machine does next; a reduction keeps the lowest states, as many as its first number says, and pushes the second.
-enum Seen {
+pub enum Seen {
     Accept,
     Error,
     Broken,
@@ -59,7 +60,7 @@ enum Paused {
 }
 
 // What comes of a symbol of the sentence: the run ends at a depth, or goes on at one.
-enum Entered {
+pub enum Entered {
     Ended(Ending, usize),
     Depth(usize),
 }

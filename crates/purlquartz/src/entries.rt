@@ -1,12 +1,14 @@
-// Lists of sentences: checked, their entries by index and one after another, and judged.
+// Lists of sentences: checked, their entries by index and one after another, judged, and sorted.
 ghost use mathlib.Core.Path.{_≡_};
 ghost use Rattle.lists.specs.List.{listIn, listing, nextAt, nthIn};
 ghost use Rattle.judgement.specs.Judgement.{Judges};
-ghost use Rattle.told.specs.Told.{toldListed, toldEntry, toldNext, toldJudged, Told};
+ghost use Rattle.sorting.specs.Sorting.{sorts};
+ghost use Rattle.told.specs.Told.{toldListed, toldEntry, toldNext, toldJudged, toldSorted, Told};
 use told::tell_entry;
 use told::tell_judged;
 use told::tell_listed;
 use told::tell_next;
+use told::tell_sorted;
 
 #[no_mangle]
 pub extern "C" fn purlquartz_check_list(cells: &[u16], list: &[u8], answer: &mut [u64; 8])
@@ -45,4 +47,17 @@ pub extern "C" fn purlquartz_judge(
     ensures { λ _. ⌜ Told (Judges (now (cells .entry)) (now (list .entry)) (now (work .entry)) (now (stack .entry))) toldJudged (now (answer .exit)) (now (work .exit), now (stack .exit)) ⌝ }
 {
     *answer = tell_judged(judgement::judge(cells, list, work, stack));
+}
+
+#[no_mangle]
+pub extern "C" fn purlquartz_sort_list(
+    cells: &[u16],
+    list: &[u8],
+    out: &mut [u8],
+    answer: &mut [u64; 8],
+)
+    ensures { λ _. ⌜ now (answer .exit) ≡ toldSorted (sorts (now (cells .entry)) (now (list .entry)) (now (out .entry)) .0) ⌝ }
+    ensures { λ _. ⌜ now (out .exit) ≡ sorts (now (cells .entry)) (now (list .entry)) (now (out .entry)) .1 ⌝ }
+{
+    *answer = tell_sorted(sorting::sort_list(cells, list, out));
 }

@@ -16,6 +16,7 @@ pub use entries::purlquartz_check_list;
 pub use entries::purlquartz_entry;
 pub use entries::purlquartz_judge;
 pub use entries::purlquartz_next_entry;
+pub use entries::purlquartz_sort_list;
 pub use pairs::purlquartz_find;
 pub use pairs::purlquartz_find_break;
 pub use pairs::purlquartz_map;

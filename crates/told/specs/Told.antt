@@ -5,7 +5,8 @@ use Rattle.book.specs.{Call.Tells, declared.Checked.Checked, declared.Written.W
 use Rattle.machine.specs.{Run.stopOf, declared.Ending.Ending, declared.Ran.Ran, declared.Stop.Stop}
 use Rattle.finder.specs.declared.Found.{Found}
 use Rattle.lists.specs.declared.{Listing.Listing, Next.Next, Nth.Nth}
-use Rattle.judgement.specs.declared.Judgement.{Judgement}
+use Rattle.course.specs.declared.Judgement.{Judgement}
+use Rattle.sorting.specs.declared.Sorted.{Sorted}
 use Rattle.certificate.specs.{Certificate.order, declared.Verdict.Verdict}
 
 -- 'Where an answer is an enum, a definition gives this paper's number and values for each of its cases': eight numbers, the kind first
@@ -77,6 +78,14 @@ toldJudged Judgement.Complete = eight (1 ∷ [])
 toldJudged (Judgement.Uncovered s) = eight (2 ∷ s ∷ [])
 toldJudged (Judgement.Repeat i) = eight (3 ∷ i ∷ [])
 toldJudged (Judgement.Wrong i e) = toldWrong i (kindOf e) (stopOf e)
+toldJudged (Judgement.OutOfOrder i) = eight (5 ∷ i ∷ [])
+
+-- 'A converter sorts any list with no wrong or repeated entry and else gives the old judgement': how many bytes the sorted list has, or the
+-- judgement
+abbrev pub toldSorted : Sorted → List ℕ
+toldSorted (Sorted.Refused r) = toldRefusal r
+toldSorted (Sorted.Count n) = eight (1 ∷ n ∷ [])
+toldSorted (Sorted.Fault j) = toldJudged j
 
 -- accepted; or 'The fault told is the first condition in this order .. with the lowest claim's index': the condition's number, from 0 for a
 -- claim over 1,002, and then the index

@@ -8,5 +8,6 @@ pub use tell::tell_judged;
 pub use tell::tell_listed;
 pub use tell::tell_next;
 pub use tell::tell_ran;
+pub use tell::tell_sorted;
 pub use tell::tell_verdict;
 pub use tell::tell_written;

@@ -1,14 +1,14 @@
 // Each answer as a kind and its values.
 ghost use mathlib.Core.List.{[], _∷_};
 ghost use mathlib.Core.Path.{_≡_};
-ghost use Rattle.told.specs.Told.{eight, toldRefusal, toldWritten, toldChecked, kindOf, toldEnded, toldRan, toldFound, toldListed, toldEntry, toldNext, toldWrong, toldJudged, toldVerdict};
+ghost use Rattle.told.specs.Told.{eight, toldRefusal, toldWritten, toldChecked, kindOf, toldEnded, toldRan, toldFound, toldListed, toldEntry, toldNext, toldWrong, toldJudged, toldSorted, toldVerdict};
 ghost use Rattle.certificate.specs.Certificate.{order};
 use book::Checked;
 use book::Written;
 use certificate::Condition;
 use certificate::Verdict;
+use course::Judgement;
 use finder::Found;
-use judgement::Judgement;
 use lists::Listing;
 use lists::Next;
 use lists::Nth;
@@ -17,6 +17,7 @@ use machine::Ran;
 use machine::Stop;
 use machine::stop_of;
 use number::Refusal;
+use sorting::Sorted;
 
 // A kind with at most three values.
 fn few(kind: u64, a: u64, b: u64, c: u64) -> [u64; 8]
@@ -163,6 +164,17 @@ pub fn tell_judged(j: Judgement) -> [u64; 8]
         Judgement::Uncovered(s) => few(2, s as u64, 0, 0),
         Judgement::Repeat(i) => few(3, i as u64, 0, 0),
         Judgement::Wrong(i, e) => tell_wrong(i, kind_of(e), stop_of(e)),
+        Judgement::OutOfOrder(i) => few(5, i as u64, 0, 0),
+    }
+}
+
+pub fn tell_sorted(s: Sorted) -> [u64; 8]
+    ensures { λ n. ⌜ n ≡ toldSorted s ⌝ }
+{
+    match s {
+        Sorted::Refused(r) => tell_refusal(r),
+        Sorted::Count(n) => few(1, n as u64, 0, 0),
+        Sorted::Fault(j) => tell_judged(j),
     }
 }
 

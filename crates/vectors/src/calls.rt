@@ -8,13 +8,15 @@
 //   to_form_2 n
 //   run z n             the bytes with lookahead z, and n stack cells
 //   find s z n m        one pair, n work cells and m bytes
-//   find_break s z n m  the same
+//   find_break s z n m  the same, where its reduction breaks
 //   map n m             n work cells and m cells
 //   sets n m k          n work cells, m masks and k sizes
 //   check_list          the bytes as a list
 //   entry k
 //   next_entry i k      from offset i on, with k left
 //   judge n m           n work cells and m stack cells
+//   sort_list n         to n bytes
+//   sort_orders, judge_orders   see orders.rt
 //   check_certificate   see certificates.rt
 ghost use mathlib.Core.Path.{_≡_};
 ghost use Prim.Native.Nat.{_≤_};
@@ -22,6 +24,7 @@ ghost use lib.ListN.{length};
 use crate::certificates::check_certificate;
 use crate::numbers::cell;
 use crate::numbers::size;
+use crate::orders::in_orders;
 use crate::say;
 use purlquartz::purlquartz_check;
 use purlquartz::purlquartz_check_list;
@@ -34,6 +37,7 @@ use purlquartz::purlquartz_next_entry;
 use purlquartz::purlquartz_read;
 use purlquartz::purlquartz_run;
 use purlquartz::purlquartz_sets;
+use purlquartz::purlquartz_sort_list;
 use purlquartz::purlquartz_to_form_1;
 use purlquartz::purlquartz_to_form_2;
 use purlquartz::purlquartz_write;
@@ -264,6 +268,19 @@ fn judge(args: &[u32], cells: &[u16], list: &[u8]) {
     judge_in(cells, list, &mut work[..n], &mut stack[..m]);
 }
 
+fn sort_list_to(cells: &[u16], list: &[u8], out: &mut [u8]) {
+    let mut answer = [0u64; 8];
+    purlquartz_sort_list(cells, list, out, &mut answer);
+    say::answer(b"sort_list", &answer);
+    say::bytes(out);
+}
+
+fn sort_list(args: &[u32], cells: &[u16], list: &[u8]) {
+    let mut out = free_bytes();
+    let n = room(args, 0, BYTES);
+    sort_list_to(cells, list, &mut out[..n]);
+}
+
 // The calls that read, check, write and convert a book. Answers whether the word is one of them.
 fn on_book(word: &[u8], args: &[u32], cells: &[u16], bytes: &[u8]) -> bool {
     if check::same(word, b"read") {
@@ -331,6 +348,10 @@ fn on_list(word: &[u8], args: &[u32], cells: &[u16], list: &[u8]) -> bool {
         judge(args, cells, list);
         return true;
     }
+    if check::same(word, b"sort_list") {
+        sort_list(args, cells, list);
+        return true;
+    }
     false
 }
 
@@ -342,6 +363,9 @@ pub fn call(word: &[u8], args: &[u32], cells: &[u16], bytes: &[u8]) {
         trial::text(b"\n");
     }
     if on_list(word, args, cells, bytes) {
+        trial::text(b"\n");
+    }
+    if in_orders(word, args, cells, bytes) {
         trial::text(b"\n");
     }
     if check::same(word, b"check_certificate") {

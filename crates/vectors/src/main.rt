@@ -5,6 +5,7 @@ mod calls;
 mod certificates;
 mod make;
 mod numbers;
+mod orders;
 mod say;
 
 ghost use Prim.Native.Nat.{_≤_, _<_};

@@ -143,3 +143,10 @@ pub fn bytes(s: &[u8]) {
     let n = widen_bytes(s, &mut wide);
     words(&wide[..n]);
 }
+
+// The sum alone.
+pub fn sum_of(s: &[u8]) {
+    let mut wide = blank();
+    let n = widen_bytes(s, &mut wide);
+    io::print_decimal(1, sum(&wide[..n]));
+}

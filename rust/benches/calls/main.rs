@@ -45,6 +45,8 @@ fn main() {
     println!();
     print_breaks(quick);
     println!();
+    print_sortings();
+    println!();
     print_growth(quick);
     println!();
     print_certificates();
@@ -184,6 +186,37 @@ fn print_break(name: &str, book: &Book) {
         length.map_or(String::new(), |length| length.to_string()),
         both_times(library.find_break(pair), independent.find_break(pair)),
         both_times(library.find_breaks(), independent.find_breaks()),
+    );
+}
+
+/// Lists with an entry for each state that fails in error, sorted before and turned round.
+fn print_sortings() {
+    println!("| book | entries | bytes | sort_list, in order | turned round |");
+    println!("|---|---|---|---|---|");
+    for name in SHIPPED {
+        print_sorting(name, &shipped(name));
+    }
+    print_sorting("doubling", &doubling());
+}
+
+fn print_sorting(name: &str, book: &Book) {
+    let library = Subject::new(&both::LIBRARY, book);
+    let independent = Subject::new(&both::INDEPENDENT, book);
+    let mut lines = covering_errors(&mut Random::new(1), book);
+    let sorted = encode_list(&lines);
+    lines.reverse();
+    let turned = encode_list(&lines);
+    let times = [&sorted, &turned].map(|list| {
+        both_times(
+            library.sort_list(list, &sorted),
+            independent.sort_list(list, &sorted),
+        )
+    });
+    println!(
+        "| {name} | {} | {} | {} |",
+        lines.len(),
+        sorted.len(),
+        times.join(" | ")
     );
 }
 

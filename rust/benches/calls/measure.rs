@@ -187,6 +187,16 @@ impl<'a> Subject<'a> {
         })
     }
 
+    pub fn sort_list(&self, list: &[u8], sorted: &[u8]) -> Time {
+        let mut bytes = vec![0; sorted.len()];
+        let time = timed(|| {
+            let answer = (self.calls.sort_list)(&self.cells, list, &mut bytes);
+            black_box(answer).expect("a list");
+        });
+        assert_eq!(bytes, sorted, "a wrong list has no time");
+        time
+    }
+
     pub fn certificate(&self) -> Certificate {
         make(&self.cells).expect("a certificate")
     }

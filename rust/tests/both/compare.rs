@@ -263,6 +263,16 @@ pub fn judge(
     same("judge", made(subject), made(&INDEPENDENT))
 }
 
+pub fn sort_list(subject: &Calls, cells: &[u16], list: &[u8], lent: &Lent<u8>) -> Outcome {
+    let made = |calls: &Calls| {
+        let (cells, list) = (Lent::holding(cells), Lent::holding(list));
+        let mut lent = lent.clone();
+        let answer = (calls.sort_list)(cells.part(), list.part(), lent.part_mut());
+        (answer, ((cells, list), lent))
+    };
+    same("sort_list", made(subject), made(&INDEPENDENT))
+}
+
 /// The word of a fault is the name of its condition.
 pub fn check_certificate(subject: &Calls, cells: &[u16], certificate: &Certificate) -> Outcome {
     let made = |calls: &Calls| {

@@ -32,6 +32,7 @@ pub struct Calls {
     pub entries: fn(&[u16], &[u8]) -> Refused<Vec<Entry>>,
     pub next_entry: fn(&[u8], Rest) -> Option<(Entry, Rest)>,
     pub judge: fn(&[u16], &[u8], &mut [u16], &mut [u16]) -> Refused<Judgement>,
+    pub sort_list: fn(&[u16], &[u8], &mut [u8]) -> Refused<Sorted>,
     pub check_certificate: Checker,
 }
 
@@ -88,6 +89,7 @@ pub const LIBRARY: Calls = Calls {
     entries: collected,
     next_entry,
     judge,
+    sort_list,
     check_certificate,
 };
 
@@ -107,5 +109,6 @@ pub const INDEPENDENT: Calls = Calls {
     entries: calls::entries,
     next_entry: calls::next_entry,
     judge: calls::judge,
+    sort_list: calls::sort_list,
     check_certificate: calls::check_certificate,
 };

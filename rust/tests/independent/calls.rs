@@ -9,6 +9,7 @@ use super::summaries::Summaries;
 use super::words::Words;
 use super::{list, machine};
 use purlquartz::*;
+use std::collections::BTreeMap;
 
 pub fn read(bytes: &[u8], cells: &mut [u16]) -> Result<usize, Refusal> {
     let result = Book::from_bytes(bytes)?.cells();
@@ -233,29 +234,50 @@ pub fn judge(
     Ok(judge_entries(&book, bytes, &list.entries))
 }
 
+/// The state that an entry fails in, or the ending that makes it wrong.
+fn failing_state(book: &Book, bytes: &[u8], entry: &Entry) -> Result<usize, Ending> {
+    let (ending, _) = machine::run(book, entry.symbols(bytes), entry.lookahead);
+    match ending {
+        Ending::Error(stop) | Ending::Broken(stop) if usize::from(stop.taken) == entry.length => {
+            Ok(stop.state.into())
+        }
+        ending => Err(ending),
+    }
+}
+
 fn judge_entries(book: &Book, bytes: &[u8], entries: &[Entry]) -> Judgement {
     let mut covered = vec![false; book.states()];
-    for (index, entry) in entries.iter().enumerate() {
-        let (ending, _) = machine::run(book, entry.symbols(bytes), entry.lookahead);
-        match ending {
-            Ending::Error(stop) | Ending::Broken(stop)
-                if usize::from(stop.taken) == entry.length =>
-            {
-                let seen = &mut covered[usize::from(stop.state)];
-                if *seen {
-                    return Judgement::Repeat { entry: index };
-                }
-                *seen = true;
-            }
-            ending => {
-                return Judgement::Wrong {
-                    entry: index,
-                    ending,
-                }
-            }
+    let mut before = 0;
+    for (entry, read) in entries.iter().enumerate() {
+        let state = match failing_state(book, bytes, read) {
+            Ok(state) => state,
+            Err(ending) => return Judgement::Wrong { entry, ending },
+        };
+        if state < before {
+            return Judgement::OutOfOrder { entry };
         }
+        if covered[state] {
+            return Judgement::Repeat { entry };
+        }
+        covered[state] = true;
+        before = state;
     }
     judge_cover(book, &covered)
+}
+
+pub fn sort_list(cells: &[u16], bytes: &[u8], lent: &mut [u8]) -> Result<Sorted, Refusal> {
+    let book = Book::from_cells(cells)?;
+    let list = list::decode(bytes, book.sizes.terminals)?;
+    let mut by_state = BTreeMap::new();
+    for (entry, read) in list.entries.iter().enumerate() {
+        match failing_state(&book, bytes, read) {
+            Err(ending) => return Ok(Sorted::Wrong { entry, ending }),
+            Ok(state) if by_state.contains_key(&state) => return Ok(Sorted::Repeat { entry }),
+            Ok(state) => by_state.insert(state, (read.symbols(bytes), read.lookahead)),
+        };
+    }
+    let sorted = list::encode_list(by_state.into_values());
+    hand_over(&sorted, lent).map(Sorted::List)
 }
 
 /// The lowest state with a failing pair, long ones too, that is not covered.

@@ -1,6 +1,6 @@
 //! Lists of sentences.
 
-use super::numbers::{refuse, Bytes, Source};
+use super::numbers::{encode, refuse, Bytes, Source};
 use purlquartz::{Entry, Refusal, Rest};
 use std::ops::Range;
 
@@ -34,6 +34,18 @@ pub fn decode(bytes: &[u8], terminals: u16) -> Result<List, Refusal> {
         Some(place) => refuse(6, place),
         None => Ok(List { first, entries }),
     }
+}
+
+/// The bytes of a list of sentences, each with its lookahead.
+pub fn encode_list<'a>(lines: impl ExactSizeIterator<Item = (&'a [u8], u16)>) -> Vec<u8> {
+    let mut bytes = Vec::new();
+    encode(lines.len() as u16, &mut bytes);
+    for (sentence, lookahead) in lines {
+        encode(sentence.len() as u16, &mut bytes);
+        bytes.extend(sentence);
+        encode(lookahead, &mut bytes);
+    }
+    bytes
 }
 
 /// The entry at a rest, with the rest after it. What is read has to be an entry only of some book,

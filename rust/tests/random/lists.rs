@@ -4,8 +4,8 @@ use super::Random;
 use crate::independent::book::{Action, Book};
 use crate::independent::breaks::find_breaks;
 use crate::independent::calls::find_all;
+use crate::independent::list;
 use crate::independent::machine::run;
-use crate::independent::numbers::encode;
 use purlquartz::{Break, Ending, Found};
 
 /// A sentence and its lookahead.
@@ -39,7 +39,7 @@ pub fn taken_sentence(random: &mut Random, book: &Book, length: usize) -> Vec<u8
     sentence
 }
 
-/// For each state with a failing pair one sentence that fails there, in a random order.
+/// For each state with a failing pair one sentence that fails there, by rising state.
 pub fn covering(random: &mut Random, book: &Book) -> Vec<Line> {
     one_a_state(random, book, |state, found| {
         [errors(book, state, found), breaks(book, state)].concat()
@@ -61,9 +61,8 @@ fn one_a_state(
     let mut lines = Vec::new();
     for (state, found) in answers.chunks(book.terminals()).enumerate() {
         let mut failing = lines_of(state, found);
-        if !failing.is_empty() && lines.len() < 128 {
-            let at = random.below(lines.len() + 1);
-            lines.insert(at, failing.swap_remove(random.below(failing.len())));
+        if !failing.is_empty() {
+            lines.push(failing.swap_remove(random.below(failing.len())));
         }
     }
     lines
@@ -93,9 +92,15 @@ fn breaks(book: &Book, state: usize) -> Vec<Line> {
     lines
 }
 
-/// A list near to a covering one: as it is, or with a line dropped, doubled, added or changed.
+/// A list near to a covering one.
 pub fn lines(random: &mut Random, book: &Book) -> Vec<Line> {
-    let mut lines = covering(random, book);
+    let lines = covering(random, book);
+    varied(random, book, lines)
+}
+
+/// The lines as they are, or with one dropped, doubled, added or changed; as a rule in the same
+/// order, or else with two exchanged, or in any order.
+pub fn varied(random: &mut Random, book: &Book, mut lines: Vec<Line>) -> Vec<Line> {
     let any = random.below(lines.len() + 1);
     let length = random.between(0, 6);
     let terminals = book.sizes.terminals;
@@ -103,25 +108,31 @@ pub fn lines(random: &mut Random, book: &Book) -> Vec<Line> {
     let lookahead = random.below(terminals.into()) as u16;
     match random.below(6) {
         0 if any < lines.len() => drop(lines.remove(any)),
-        1 if any < lines.len() => lines.push(lines[any].clone()),
+        1 if any < lines.len() => {
+            let at = random.pick(&[any, lines.len()]);
+            lines.insert(at, lines[any].clone());
+        }
         2 if lines.len() < 128 => lines.insert(any, (extra, lookahead)),
         3 if any < lines.len() => lines[any].1 = lookahead,
         4 if any < lines.len() => lines[any].0.extend(extra),
         _ => {}
     }
     lines.truncate(128);
+    disordered(random, &mut lines);
     lines
 }
 
-pub fn encode_list(lines: &[Line]) -> Vec<u8> {
-    let mut bytes = Vec::new();
-    encode(lines.len() as u16, &mut bytes);
-    for (sentence, lookahead) in lines {
-        encode(sentence.len() as u16, &mut bytes);
-        bytes.extend(sentence);
-        encode(*lookahead, &mut bytes);
+fn disordered(random: &mut Random, lines: &mut [Line]) {
+    match random.below(6) {
+        0 | 1 => random.shuffle(lines),
+        2 if !lines.is_empty() => lines.swap(random.below(lines.len()), random.below(lines.len())),
+        _ => {}
     }
-    bytes
+}
+
+pub fn encode_list(lines: &[Line]) -> Vec<u8> {
+    let lines = lines.iter();
+    list::encode_list(lines.map(|(sentence, lookahead)| (&sentence[..], *lookahead)))
 }
 
 /// The list's bytes with one thing made wrong, as a rule.

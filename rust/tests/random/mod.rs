@@ -52,3 +52,17 @@ impl Random {
         }
     }
 }
+
+/// Every order of the numbers below a count, the rising one first.
+pub fn every_order(count: usize) -> Vec<Vec<usize>> {
+    let mut orders = vec![Vec::new()];
+    for _ in 0..count {
+        let longer = orders.into_iter().flat_map(|order: Vec<usize>| {
+            let unused = (0..count).filter(|number| !order.contains(number));
+            let longer = unused.map(|number| [&order[..], &[number]].concat());
+            longer.collect::<Vec<_>>()
+        });
+        orders = longer.collect();
+    }
+    orders
+}

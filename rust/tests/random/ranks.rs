@@ -1,6 +1,6 @@
 //! Books in both forms, with ranks in any order.
 
-use super::Random;
+use super::{every_order, Random};
 use crate::independent::book::Book;
 use purlquartz::Sizes;
 
@@ -39,15 +39,8 @@ pub fn unranked(book: &Book) -> Book {
 
 /// The book in form 2 with its ranks in every order, the terminals' numbers first.
 pub fn in_every_order(book: &Book) -> Vec<Book> {
-    let mut orders = vec![Vec::new()];
-    for _ in 0..book.sizes.terminals {
-        let longer = orders.into_iter().flat_map(|order: Vec<u16>| {
-            let unused = (0..book.sizes.terminals).filter(|rank| !order.contains(rank));
-            let longer = unused.map(|rank| [&order[..], &[rank]].concat());
-            longer.collect::<Vec<_>>()
-        });
-        orders = longer.collect();
-    }
-    let books = orders.into_iter().map(|ranks| ranked(book, ranks));
+    let orders = every_order(book.terminals()).into_iter();
+    let books =
+        orders.map(|ranks| ranked(book, ranks.into_iter().map(|rank| rank as u16).collect()));
     books.collect()
 }

@@ -2,7 +2,7 @@
 use mathlib.Core.Path.{sym}
 use native.Mathlib.Omega.{arith}
 use lib.Seq.{length-take-le}
-use Rattle.lines.specs.PrepareLaws.{prepared-ready}
+use Rattle.opening.specs.PrepareLaws.{prepared-ready}
 use borrow.Author.Needs.{needs}
 use Rattle.printing.proofs.print_cells.Statement.{statement}
 use Rattle.printing.proofs.print_cells.Tie as tie

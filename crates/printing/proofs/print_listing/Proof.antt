@@ -1,7 +1,7 @@
 -- `printing::print_listing` meets its contract: a book is no longer than the cells. Assumes nothing.
 use native.Mathlib.Omega.{arith}
 use lib.ListN.{length-take}
-use Rattle.lines.specs.PrepareLaws.{read-most}
+use Rattle.opening.specs.PrepareLaws.{read-most}
 use borrow.Author.Needs.{needs}
 use Rattle.printing.proofs.print_listing.Statement.{statement}
 use Rattle.printing.proofs.print_listing.Tie as tie

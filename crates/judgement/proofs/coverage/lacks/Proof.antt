@@ -17,4 +17,4 @@ returns-2 : tie.Need-returns-2
 returns-2 c = rw (eq-eqb _ _ (c .before .if1 .left)) (c .fails .ensures)
 
 pub lacks-spec : {M : Type 1} → statement M
-lacks-spec = tie.close (tie.spec element-copy-out-if1 returns fails-requires returns-2)
+lacks-spec = tie.close (tie.spec (λ c. search needs) element-copy-out-if1 returns fails-requires returns-2)

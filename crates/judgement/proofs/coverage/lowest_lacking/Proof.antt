@@ -11,10 +11,10 @@ use Rattle.judgement.proofs.coverage.lowest_lacking.Statement.{statemen
 use Rattle.judgement.proofs.coverage.lowest_lacking.Tie as tie
 
 abbrev Inv-loop : tie.InvT-loop
-Inv-loop cells d dist broken flags s q₀ q = (q ≤ d .s) × (lowestState (lacksIn (stateFails cells dist broken (d .t)) flags) (d .s) 0 ≡ lowestState (lacksIn (stateFails cells dist broken (d .t)) flags) (d .s - q) q)
+Inv-loop cells d dist broken places s q₀ q = (q ≤ d .s) × (lowestState (lacksIn (stateFails cells dist broken (d .t)) places) (d .s) 0 ≡ lowestState (lacksIn (stateFails cells dist broken (d .t)) places) (d .s - q) q)
 
 abbrev μ-loop : tie.MeasureT-loop
-μ-loop cells d dist broken flags s q₀ q = d .s - q
+μ-loop cells d dist broken places s q₀ q = d .s - q
 
 loop-holds : tie.Need-loop-holds Inv-loop μ-loop
 loop-holds c = (omega arith, rw sub-zero)

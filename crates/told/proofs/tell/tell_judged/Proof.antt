@@ -18,6 +18,9 @@ returns-4 c = rw (c .before .before .j3 .given .1) (c .few3 .ensures)
 returns-5 : tie.Need-returns-5
 returns-5 c = rw (c .before .before .before .before .j4 .given .1, ← c .before .before .kind-of .ensures, ← c .before .stop-of .ensures) (c .tell-wrong .ensures)
 
+returns-6 : tie.Need-returns-6
+returns-6 c = rw (c .before .before .j5 .given .1) (c .few4 .ensures)
+
 pub tell-judged-spec : {M : Type 1} → statement M
 tell-judged-spec =
     tie.close
@@ -35,8 +38,11 @@ tell-judged-spec =
     (λ c κs. search needs)
     (λ c κs. search needs)
     (λ c κs. search needs)
+    (λ c. search needs)
+    (λ c κs. search needs)
     returns
     returns-2
     returns-3
     returns-4
-    returns-5)
+    returns-5
+    returns-6)

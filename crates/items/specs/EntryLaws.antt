@@ -1,0 +1,115 @@
+-- Laws of one entry: what holds of one that was read, which bytes it has, and that these are read back. Assumes nothing.
+use mathlib.Core.List.{List, [], _∷_, _++_, append-assoc}
+use mathlib.Core.Path.{_≡_, refl, sym, _∙_}
+use Prim.Native.Nat.{ℕ, suc, _+_, _≤_, _<_}
+use native.Mathlib.Nat.{add-assoc, add-zero}
+use native.Mathlib.Omega.{arith}
+use borrow.Author.Tests.{eq-eqb}
+use lib.ListN.{length, getD, drop, length-append, take-append-drop}
+use lib.Seq.{drop-drop, getD-drop, take-append-seam}
+use Rattle.number.specs.Number.{numberAt, written, value}
+use Rattle.number.specs.NumberLaws.{Bytes, byte-at, written-one, first-stands, number-onward}
+use Rattle.number.specs.declared.Cursor.{Cursor}
+use Rattle.book.specs.Book.{read, row, bytesOf}
+use Rattle.book.specs.BytesLaws.{bytes-append}
+use Rattle.book.specs.RoundTripLaws.{past, number-written}
+use Rattle.lists.specs.Entry.{lengthFault, symbolFault, symbolRow, lookaheadFault, entryAt, part}
+use Rattle.lists.specs.EntryLaws.{part-length, outside-none, entry-parts, entry-spelled, one-byte}
+use Rattle.lists.specs.declared.Entry.{Entry}
+use Rattle.lists.specs.declared.Step.the-variants.{Found}
+use Rattle.items.specs.Items.{Item, itemOf, itemNumbers}
+use Rattle.items.specs.Valid.{ValidItem}
+
+-- ---- where an entry that was read ends
+pub record Ended (bytes : List ℕ) (place : ℕ) (e : Entry) (next : Cursor) : Type 0 where
+  pub begins : place < e .start
+  pub last : e .start + e .len < length bytes
+  pub looks : e .lookahead ≡ getD bytes (e .start + e .len) 0
+  pub after : next .at ≡ e .start + e .len + 1
+
+module _ {t : ℕ} (bytes : List ℕ) (place : ℕ) {e : Entry} {next : Cursor} (few : t ≤ 32) (f : entryAt t bytes place ≡ Found e next) where
+  pub entry-ended : Ended bytes place e next
+  entry-ended =
+      let p = entry-parts t bytes place e next f in
+      let s = entry-spelled t bytes place e next (omega arith) f in
+      let same : read (p .symbols) (p .last) ≡ read (part bytes (e .start) (e .len)) (e .start + e .len) = sym (p .spelled) ∙ s .symbols .row in
+      let l : p .last ≡ e .start + e .len = cc in
+      let (a, b, c) = one-byte bytes (e .start + e .len) (e .lookahead) next (omega (arith, p .below)) (rw l at (p .looks)) in
+      record { begins = number-onward bytes place (e .len) (record { at = e .start }) (p .begins); last = a; looks = b; after = c }
+
+  -- it is one that a list can have
+  pub entry-valid : ValidItem t (itemOf bytes e)
+  entry-valid =
+      let s = entry-spelled t bytes place e next (omega arith) f in
+      let count = part-length bytes (e .start) (e .len) (s .symbols .within) in
+      record { short = rw count (s .short); symbol = λ i l. s .symbols .symbol i (rw count at l); below = s .below }
+
+-- ---- its bytes: symbols and lookahead take one each
+bytes-narrow : (w : List ℕ) → ((i : ℕ) → i < length w → getD w i 0 < 128) → bytesOf w ≡ w
+bytes-narrow [] h = refl
+bytes-narrow (a ∷ w) h = rw (written-one a (h 0 (omega arith)), bytes-narrow w (λ i l. h (suc i) (omega arith)))
+
+module _ {t : ℕ} {x : Item} (few : t ≤ 32) (v : ValidItem t x) where
+  symbols-bytes : bytesOf (x .symbols) ≡ x .symbols
+  symbols-bytes = bytes-narrow (x .symbols) (λ i l. omega (arith, v .symbol i l .1))
+
+  pub item-bytes : bytesOf (itemNumbers x) ≡ written (length (x .symbols)) ++ (x .symbols ++ (x .lookahead ∷ []))
+  item-bytes = rw (bytes-append, symbols-bytes, written-one (x .lookahead) (omega (arith, v .below)), append-assoc)
+
+-- those that it was read from
+pub entry-bytes : {t : ℕ} (bytes : List ℕ) (place : ℕ) {e : Entry} {next : Cursor} → Bytes bytes → t ≤ 32 → entryAt t bytes place ≡ Found e next
+    → drop place bytes ≡ bytesOf (itemNumbers (itemOf bytes e)) ++ drop (next .at) bytes
+unfolding numberAt
+entry-bytes {t} bytes place {e} {next} b few f =
+    let p = entry-parts t bytes place e next f in
+    let s = first-stands place (drop place bytes) (e .len) (e .start) (λ i. rw getD-drop (b (place + i))) (p .begins) in
+    let d = entry-ended bytes place few f in
+    let count = part-length bytes (e .start) (e .len) (omega (arith, d .last)) in
+    let symbols : s .rest ≡ part bytes (e .start) (e .len) ++ (e .lookahead ∷ drop (next .at) bytes) =
+    sym (past bytes place (written (e .len)) (s .rest) (s .whole))
+    ∙ rw (← s .after) (sym (take-append-drop (e .len) (drop (e .start) bytes)) ∙ rw (drop-drop, byte-at bytes (e .start + e .len) (d .last), ← d .looks, ← d .after)) in
+    s .whole ∙ rw (item-bytes few (entry-valid bytes place few f), count, append-assoc, append-assoc, symbols)
+
+-- ---- what is written is read
+-- symbols
+symbols-read : (t : ℕ) (bytes w seen : List ℕ) (at : ℕ) (rest : List ℕ) → t ≤ 32 → ((i : ℕ) → i < length w → (1 ≤ getD w i 0) × (getD w i 0 < t))
+    → drop at bytes ≡ bytesOf w ++ rest → row (numberAt bytes) (symbolFault t) (length w) seen at ≡ read w (at + length (bytesOf w))
+unfolding row
+symbols-read t bytes [] seen at rest few h e = rw add-zero refl
+symbols-read t bytes (a ∷ w) seen at rest few h e =
+    let e′ : drop at bytes ≡ written a ++ (bytesOf w ++ rest) = e ∙ append-assoc (written a) (bytesOf w) rest in
+    let (low, high) = h 0 (omega arith) in
+    let n = number-written bytes at a (bytesOf w ++ rest) (omega arith) e′ in
+    let clean : symbolFault t seen a ≡ 0 = outside-none 1 t 7 a low high in
+    let on = symbols-read t bytes w (seen ++ (a ∷ [])) (at + length (written a)) rest few (λ i l. h (suc i) (omega arith)) (past bytes at (written a) (bytesOf w ++ rest) e′) in
+    rw (n, eq-eqb (symbolFault t seen a) 0 clean, on, length-append, ← add-assoc)
+
+-- an entry, which says what was written
+pub record ItemRead (t : ℕ) (bytes : List ℕ) (at : ℕ) (x : Item) : Type 0 where
+  pub entry : Entry
+  pub found : entryAt t bytes at ≡ Found entry (record { at = at + length (bytesOf (itemNumbers x)) })
+  pub says : itemOf bytes entry ≡ x
+
+pub item-read : {t : ℕ} {x : Item} (bytes : List ℕ) (at : ℕ) (rest : List ℕ) → t ≤ 32 → ValidItem t x → drop at bytes ≡ bytesOf (itemNumbers x) ++ rest
+    → ItemRead t bytes at x
+unfolding entryAt
+item-read {t} {x} bytes at rest few v e =
+    let len = length (x .symbols) in
+    let start = at + length (written len) in
+    let e₁ : drop at bytes ≡ written len ++ (x .symbols ++ (x .lookahead ∷ rest)) = e ∙ rw (item-bytes few v, append-assoc, append-assoc) in
+    let e₂ = past bytes at (written len) (x .symbols ++ (x .lookahead ∷ rest)) e₁ in
+    let e₃ = past bytes start (x .symbols) (x .lookahead ∷ rest) e₂ in
+    let n = number-written bytes at len (x .symbols ++ (x .lookahead ∷ rest)) (omega (arith, v .short)) e₁ in
+    let symbols : symbolRow t bytes start len ≡ read (x .symbols) (start + len) =
+    rw (symbols-bytes few v) at (symbols-read t bytes (x .symbols) [] start (x .lookahead ∷ rest) few (v .symbol) (rw (symbols-bytes few v) e₂)) in
+    let one = written-one (x .lookahead) (omega (arith, v .below)) in
+    let look : numberAt bytes (start + len) ≡ value (x .lookahead) (start + len + 1) =
+    rw one at (number-written bytes (start + len) (x .lookahead) rest (omega (arith, v .below)) (rw one e₃)) in
+    let low : lengthFault len ≡ 0 = outside-none 0 1001 8 len (omega arith) (omega (arith, v .short)) in
+    let below : lookaheadFault t (x .lookahead) ≡ 0 = outside-none 0 t 11 (x .lookahead) (omega arith) (v .below) in
+    let end : at + length (bytesOf (itemNumbers x)) ≡ start + len + 1 = rw (item-bytes few v, length-append, length-append) (omega arith) in
+    record {
+      entry = record { start = start; len = len; lookahead = x .lookahead };
+      found = rw (end, n, eq-eqb (lengthFault len) 0 low, symbols, look, eq-eqb (lookaheadFault t (x .lookahead)) 0 below);
+      says = rw (e₂, take-append-seam);
+    }

@@ -1,0 +1,1 @@
+// What the entries of a list say, and how a list is written: definitions and laws alone.

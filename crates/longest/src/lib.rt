@@ -1,0 +1,1 @@
+// How long a book can be: laws alone.
