@@ -1,33 +1,26 @@
 -- What is written of a certificate's sentences is read back. Assumes nothing.
 use mathlib.Core.List.{List, [], _∷_, _++_, append-assoc}
 use mathlib.Core.Path.{_≡_, refl, _∙_}
-use Prim.Native.Nat.{ℕ, _+_, _≤_}
+use Prim.Native.Nat.{ℕ, zero, suc, _+_, _≤_, _<_}
 use native.Mathlib.Nat.{add-assoc, add-zero, zero-add}
 use native.Mathlib.Omega.{arith}
 use borrow.Author.Tests.{le-ltb, le-leb, lt-leb, eq-eqb}
-use lib.ListN.{length, drop, length-append}
-use Rattle.number.specs.Number.{numberAt, written}
-use Rattle.book.specs.Book.{read, row, bytesOf}
+use lib.ListN.{length, getD, drop, length-append}
+use Rattle.number.specs.Number.{written}
+use Rattle.book.specs.Book.{read, bytesOf}
 use Rattle.book.specs.RoundTripLaws.{past, number-written}
 use Rattle.book.specs.Tables.{Tables}
 use Rattle.machine.specs.Machine.{Terminals, none, more}
-use Rattle.lists.specs.Entry.{lengthFault, symbolFault}
-use Rattle.lists.specs.EntryLaws.{outside-none}
+use Rattle.lists.specs.Entry.{lengthFault}
+use Rattle.lists.specs.EntryLaws.{outside-none, symbols-read}
 use Rattle.walk.specs.Scale.{plain}
 use Rattle.certificate.specs.Sentences.{sentenceAt, spelled, sentencesAt, sentencesIn}
 use Rattle.certificate.specs.Written.{writtenSentences, Writable, none as no-pairs, some, skip}
 
--- symbols are read where they are written
-symbols-written : {B : Tables} {w : List ℕ} (bytes seen : List ℕ) (at : ℕ) (rest : List ℕ) → B .terminals ≤ 128 → Terminals B w → drop at bytes ≡ bytesOf w ++ rest
-    → row (numberAt bytes) (symbolFault (B .terminals)) (length w) seen at ≡ read w (at + length (bytesOf w))
-unfolding row
-symbols-written bytes seen at rest few none e = rw add-zero refl
-symbols-written {B} bytes seen at rest few (more {a} {w} h l t) e =
-    let e′ : drop at bytes ≡ written a ++ (bytesOf w ++ rest) = e ∙ append-assoc (written a) (bytesOf w) rest in
-    let n = number-written bytes at a (bytesOf w ++ rest) (omega arith) e′ in
-    let clean : symbolFault (B .terminals) seen a ≡ 0 = outside-none 1 (B .terminals) 7 a h l in
-    let on = symbols-written bytes (seen ++ (a ∷ [])) (at + length (written a)) rest few t (past bytes at (written a) (bytesOf w ++ rest) e′) in
-    rw (n, eq-eqb (symbolFault (B .terminals) seen a) 0 clean, on, length-append, ← add-assoc)
+terminal-at : {B : Tables} {w : List ℕ} → Terminals B w → (i : ℕ) → i < length w → (1 ≤ getD w i 0) × (getD w i 0 < B .terminals)
+terminal-at none i h = absurd (omega arith)
+terminal-at (more h l t) zero g = (h, l)
+terminal-at (more h l t) (suc i) g = terminal-at t i (omega arith)
 
 sentence-written : {B : Tables} {w : List ℕ} (bytes : List ℕ) (at : ℕ) (rest : List ℕ) → B .terminals ≤ 128 → length w ≤ plain .limit → Terminals B w
     → drop at bytes ≡ bytesOf (length w ∷ w) ++ rest → sentenceAt (B .terminals) bytes at ≡ read w (at + length (bytesOf (length w ∷ w)))
@@ -36,7 +29,7 @@ sentence-written {B} {w} bytes at rest few h t e =
     let e′ : drop at bytes ≡ written (length w) ++ (bytesOf w ++ rest) = e ∙ append-assoc (written (length w)) (bytesOf w) rest in
     let n = number-written bytes at (length w) (bytesOf w ++ rest) (omega arith) e′ in
     let clean : lengthFault (length w) ≡ 0 = outside-none 0 1001 8 (length w) (omega arith) (omega arith) in
-    let on = symbols-written bytes [] (at + length (written (length w))) rest few t (past bytes at (written (length w)) (bytesOf w ++ rest) e′) in
+    let on = symbols-read (B .terminals) bytes w [] (at + length (written (length w))) rest few (terminal-at t) (past bytes at (written (length w)) (bytesOf w ++ rest) e′) in
     rw (n, eq-eqb (lengthFault (length w)) 0 clean, on, length-append, ← add-assoc)
 
 module _ {B : Tables} (few : B .terminals ≤ 128) where

@@ -68,19 +68,19 @@ weighed-entered ordered i len {places} {states} ending onward m below = by-run (
     by-run false e = refl
 
 -- a right verdict: the run is right and ends in this state, which has no place yet
-record Passes (len : ℕ) (places : List ℕ) (ending : Ending) (s : ℕ) : Type 0 where
+record RightVerdict (len : ℕ) (places : List ℕ) (ending : Ending) (s : ℕ) : Type 0 where
   pub right : isRight len ending ≡ true
   pub state : s ≡ stateOf ending
   pub free : getD places s 0 ≡ 0
 
-right-passes : (i len least : ℕ) (places : List ℕ) (ending : Ending) (s : ℕ) → Right s ≡ weighed i len least places ending → Passes len places ending s
+right-verdict : (i len least : ℕ) (places : List ℕ) (ending : Ending) (s : ℕ) → Right s ≡ weighed i len least places ending → RightVerdict len places ending s
 unfolding weighed
-right-passes i len least places ending s w =
+right-verdict i len least places ending s w =
     go (isRight len ending) refl (ltb (stateOf ending) least) (eqb (getD places (stateOf ending) 0) 0) refl w
   where
     go : (a : Bool) → isRight len ending ≡ a → (b c : Bool) → eqb (getD places (stateOf ending) 0) 0 ≡ c
         → Right s ≡ cond a (cond b (Fault (OutOfOrder i)) (cond c (Right (stateOf ending)) (Fault (Repeat i)))) (Fault (Wrong i ending))
-        → Passes len places ending s
+        → RightVerdict len places ending s
     go false e b c f g = absurd (clash cc)
     go true e true c f g = absurd (clash cc)
     go true e false false f g = absurd (clash cc)
@@ -203,7 +203,7 @@ module _ {ordered : Bool} {B : Tables} {t : ℕ} {bytes : List ℕ} {xs : List I
         → Going ordered B t bytes xs count (i + 1) (rest .at) (rest .left) (cond ordered s 0) (set places s at)
     unfolding onward
     going-more below s w =
-        let p = right-passes i _ least places _ s w in
+        let p = right-verdict i _ least places _ s w in
         let free : getD places (stateIn B (itemOf bytes e)) 0 ≡ 0 = rw (← p .state) (p .free) in
         let kept = places-more B (g .done) places at e (following .next) (g .marks .size) (g .after) (following .found) free (g .kept) in
         record {
@@ -223,4 +223,4 @@ module _ {ordered : Bool} {B : Tables} {t : ℕ} {bytes : List ℕ} {xs : List I
 
 -- the state of a right verdict is below 128
 pub right-below : (i len least : ℕ) (places : List ℕ) (ending : Ending) (s : ℕ) → (isRight len ending ≡ true → stateOf ending < 128) → Right s ≡ weighed i len least places ending → s < 128
-right-below i len least places ending s below w = let p = right-passes i len least places ending s w in rw (p .state) (below (p .right))
+right-below i len least places ending s below w = let p = right-verdict i len least places ending s w in rw (p .state) (below (p .right))

@@ -2,7 +2,6 @@
 use mathlib.Core.List.{List, [], _∷_, _++_, append-assoc}
 use mathlib.Core.Path.{_≡_, refl, sym, _∙_}
 use Prim.Native.Nat.{ℕ, suc, _+_, _≤_, _<_}
-use native.Mathlib.Nat.{add-assoc, add-zero}
 use native.Mathlib.Omega.{arith}
 use borrow.Author.Tests.{eq-eqb}
 use lib.ListN.{length, getD, drop, length-append, take-append-drop}
@@ -13,8 +12,8 @@ use Rattle.number.specs.declared.Cursor.{Cursor}
 use Rattle.book.specs.Book.{read, row, bytesOf}
 use Rattle.book.specs.BytesLaws.{bytes-append}
 use Rattle.book.specs.RoundTripLaws.{past, number-written}
-use Rattle.lists.specs.Entry.{lengthFault, symbolFault, symbolRow, lookaheadFault, entryAt, part}
-use Rattle.lists.specs.EntryLaws.{part-length, outside-none, entry-parts, entry-spelled, one-byte}
+use Rattle.lists.specs.Entry.{lengthFault, symbolRow, lookaheadFault, entryAt, part}
+use Rattle.lists.specs.EntryLaws.{part-length, outside-none, entry-parts, entry-spelled, one-byte, symbols-read}
 use Rattle.lists.specs.declared.Entry.{Entry}
 use Rattle.lists.specs.declared.Step.the-variants.{Found}
 use Rattle.items.specs.Items.{Item, itemOf, itemNumbers}
@@ -71,19 +70,6 @@ entry-bytes {t} bytes place {e} {next} b few f =
     s .whole ∙ rw (item-bytes few (entry-valid bytes place few f), count, append-assoc, append-assoc, symbols)
 
 -- ---- what is written is read
--- symbols
-symbols-read : (t : ℕ) (bytes w seen : List ℕ) (at : ℕ) (rest : List ℕ) → t ≤ 32 → ((i : ℕ) → i < length w → (1 ≤ getD w i 0) × (getD w i 0 < t))
-    → drop at bytes ≡ bytesOf w ++ rest → row (numberAt bytes) (symbolFault t) (length w) seen at ≡ read w (at + length (bytesOf w))
-unfolding row
-symbols-read t bytes [] seen at rest few h e = rw add-zero refl
-symbols-read t bytes (a ∷ w) seen at rest few h e =
-    let e′ : drop at bytes ≡ written a ++ (bytesOf w ++ rest) = e ∙ append-assoc (written a) (bytesOf w) rest in
-    let (low, high) = h 0 (omega arith) in
-    let n = number-written bytes at a (bytesOf w ++ rest) (omega arith) e′ in
-    let clean : symbolFault t seen a ≡ 0 = outside-none 1 t 7 a low high in
-    let on = symbols-read t bytes w (seen ++ (a ∷ [])) (at + length (written a)) rest few (λ i l. h (suc i) (omega arith)) (past bytes at (written a) (bytesOf w ++ rest) e′) in
-    rw (n, eq-eqb (symbolFault t seen a) 0 clean, on, length-append, ← add-assoc)
-
 -- an entry, which says what was written
 pub record ItemRead (t : ℕ) (bytes : List ℕ) (at : ℕ) (x : Item) : Type 0 where
   pub entry : Entry
@@ -101,7 +87,7 @@ item-read {t} {x} bytes at rest few v e =
     let e₃ = past bytes start (x .symbols) (x .lookahead ∷ rest) e₂ in
     let n = number-written bytes at len (x .symbols ++ (x .lookahead ∷ rest)) (omega (arith, v .short)) e₁ in
     let symbols : symbolRow t bytes start len ≡ read (x .symbols) (start + len) =
-    rw (symbols-bytes few v) at (symbols-read t bytes (x .symbols) [] start (x .lookahead ∷ rest) few (v .symbol) (rw (symbols-bytes few v) e₂)) in
+    rw (symbols-bytes few v) at (symbols-read t bytes (x .symbols) [] start (x .lookahead ∷ rest) (omega arith) (v .symbol) (rw (symbols-bytes few v) e₂)) in
     let one = written-one (x .lookahead) (omega (arith, v .below)) in
     let look : numberAt bytes (start + len) ≡ value (x .lookahead) (start + len + 1) =
     rw one at (number-written bytes (start + len) (x .lookahead) rest (omega (arith, v .below)) (rw one e₃)) in

@@ -3,4 +3,5 @@ mod admission;
 mod coverage;
 mod whole;
 
+pub use course::Judgement;
 pub use whole::judge;

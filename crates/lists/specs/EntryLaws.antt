@@ -1,22 +1,24 @@
--- Laws of one entry: how it is read part by part, and what holds of one that was read. Assumes nothing.
+-- Laws of one entry: how it is read part by part, and what holds of one that was read; and that symbols are read where they are written. Assumes nothing.
 use mathlib.Core.Path.{_≡_, refl, sym, _∙_, ap}
-use mathlib.Core.List.{List, [], _∷_, _++_}
+use mathlib.Core.List.{List, [], _∷_, _++_, append-assoc}
 use Prim.Native.Nat.{ℕ, zero, suc, _+_, _*_, _%_, _-_, _≤_, _<_}
 use native.Mathlib.Decide.{decLe, decLt, ℕ-discrete}
+use native.Mathlib.Nat.{add-assoc, add-zero}
 use native.Mathlib.Omega.{arith}
 use borrow.Author.Tests.{lt-ltb, le-ltb, le-leb, lt-leb, eq-eqb}
-use lib.ListN.{length, getD, take, drop, length-take, length-drop, drop-of-length-le}
+use lib.ListN.{length, getD, take, drop, length-append, length-take, length-drop, drop-of-length-le}
 use lib.Seq.{take-all}
-use Rattle.number.specs.Number.{numberAt, first, second, third, value}
+use Rattle.number.specs.Number.{numberAt, written, first, second, third, value}
 use Rattle.number.specs.NumberLaws.{byte-at, value-is, refused-not-value}
 use Rattle.number.specs.TestLaws.{tests}
 use Rattle.number.specs.declared.Cursor.{Cursor}
 use Rattle.number.specs.declared.Number.{Number}
 use Rattle.number.specs.declared.Number.the-variants.{Value, Refused}
 use Rattle.number.specs.declared.Refusal.{Refusal}
-use Rattle.book.specs.Book.{Row, read, refused, admitted, row}
+use Rattle.book.specs.Book.{Row, read, refused, admitted, row, bytesOf}
 use Rattle.book.specs.BookLaws.{ends-read, ends-refused}
 use Rattle.book.specs.CellsLaws.{row-segment}
+use Rattle.book.specs.RoundTripLaws.{past, number-written}
 use Rattle.book.specs.RowLaws.{ends, row-front, row-clean}
 use Rattle.lists.specs.Entry.{outside, lengthFault, symbolFault, symbolRow, entryAt, lookaheadFault, entryEnded, afterSymbols, part}
 use Rattle.lists.specs.declared.Entry.{Entry}
@@ -220,3 +222,16 @@ entry-spelled t bytes at e next few f =
       short = p .short;
       below = p .below;
     }
+
+-- ---- symbols that are written are read
+pub symbols-read : (t : ℕ) (bytes w seen : List ℕ) (at : ℕ) (rest : List ℕ) → t ≤ 128 → ((i : ℕ) → i < length w → (1 ≤ getD w i 0) × (getD w i 0 < t))
+    → drop at bytes ≡ bytesOf w ++ rest → row (numberAt bytes) (symbolFault t) (length w) seen at ≡ read w (at + length (bytesOf w))
+unfolding row
+symbols-read t bytes [] seen at rest few h e = rw add-zero refl
+symbols-read t bytes (a ∷ w) seen at rest few h e =
+    let e′ : drop at bytes ≡ written a ++ (bytesOf w ++ rest) = e ∙ append-assoc (written a) (bytesOf w) rest in
+    let (low, high) = h 0 (omega arith) in
+    let n = number-written bytes at a (bytesOf w ++ rest) (omega arith) e′ in
+    let clean : symbolFault t seen a ≡ 0 = outside-none 1 t 7 a low high in
+    let on = symbols-read t bytes w (seen ++ (a ∷ [])) (at + length (written a)) rest few (λ i l. h (suc i) (omega arith)) (past bytes at (written a) (bytesOf w ++ rest) e′) in
+    rw (n, eq-eqb (symbolFault t seen a) 0 clean, on, length-append, ← add-assoc)

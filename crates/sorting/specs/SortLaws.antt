@@ -16,6 +16,7 @@ use Rattle.book.specs.Tables.{Tables, tablesOf}
 use Rattle.book.specs.TablesLaws.{Holds, in-range}
 use Rattle.book.specs.declared.Checked.the-variants.{Valid, Refused as CheckedRefused}
 use Rattle.book.specs.declared.Sizes.{Sizes}
+use Rattle.layers.specs.CrossingLaws.{terminals-are, states-are}
 use Rattle.lists.specs.EntryLaws.{number-within}
 use Rattle.lists.specs.List.{listOf, listIn, listing, after}
 use Rattle.lists.specs.ListLaws.{against-stop, against-on}
@@ -76,23 +77,15 @@ module _ {d : Sizes} {cells bytes : List ℕ} {rest : Rest} {places : List ℕ} 
   passed : Clean (tablesOf cells) (d .t) bytes xs (course false (tablesOf cells) 0 [] xs) places
   passed = rw (accepted-ahead (d .t) s) at c
 
-  terminals : tablesOf cells .terminals ≡ d .t
-  unfolding tablesOf
-  terminals = rw (← h .sizes)
-
-  states : tablesOf cells .states ≡ d .s
-  unfolding tablesOf
-  states = rw (← h .sizes)
-
   rearranged : Rearranged xs sorted
   rearranged =
-      let valid : AllValid (tablesOf cells .terminals) xs = rw terminals (items-valid (d .t) bytes (h .small .terminals) (s .list)) in
+      let valid : AllValid (tablesOf cells .terminals) xs = rw (terminals-are h) (items-valid (d .t) bytes (h .small .terminals) (s .list)) in
       by-state-rearranged (clean-below (tablesOf cells) (in-range h) valid (passed .same))
 
   spans : spansAt bytes (take (d .s) places) ≡ bytesOf (numbersOf sorted)
   spans =
-      ap (λ (n : ℕ). spansAt bytes (take n places)) (sym states)
-      ∙ spans-by-state bytes b (h .small .terminals) (tablesOf cells) xs places (passed .marks .size) (passed .kept) (tablesOf cells .states) 0 (omega (arith, states, h .small .states))
+      ap (λ (n : ℕ). spansAt bytes (take n places)) (sym (states-are h))
+      ∙ spans-by-state bytes b (h .small .terminals) (tablesOf cells) xs places (passed .marks .size) (passed .kept) (tablesOf cells .states) 0 (omega (arith, states-are h, h .small .states))
 
   front : take (rest .at) bytes ≡ written (length xs)
   front = rw (accepted-first bytes (listOf (d .t) bytes) s, length-map) (list-front (d .t) bytes b (s .list) .0)
