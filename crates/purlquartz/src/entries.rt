@@ -1,10 +1,12 @@
-// Lists of sentences: checked, their entries by index and one after another, judged, and sorted.
+// Lists of sentences: checked, their entries by index and one after another, judged, sorted, and joined.
 ghost use mathlib.Core.Path.{_≡_};
 ghost use Rattle.lists.specs.List.{listIn, listing, nextAt, nthIn};
 ghost use Rattle.judgement.specs.Judgement.{Judges};
 ghost use Rattle.sorting.specs.Sorting.{sorts};
-ghost use Rattle.told.specs.Told.{toldListed, toldEntry, toldNext, toldJudged, toldSorted, Told};
+ghost use Rattle.joining.specs.Joining.{joins};
+ghost use Rattle.told.specs.Told.{toldListed, toldEntry, toldNext, toldJudged, toldSorted, toldJoined, Told};
 use told::tell_entry;
+use told::tell_joined;
 use told::tell_judged;
 use told::tell_listed;
 use told::tell_next;
@@ -60,4 +62,18 @@ pub extern "C" fn purlquartz_sort_list(
     ensures { λ _. ⌜ now (out .exit) ≡ sorts (now (cells .entry)) (now (list .entry)) (now (out .entry)) .1 ⌝ }
 {
     *answer = tell_sorted(sorting::sort_list(cells, list, out));
+}
+
+#[no_mangle]
+pub extern "C" fn purlquartz_join_lists(
+    cells: &[u16],
+    first: &[u8],
+    second: &[u8],
+    out: &mut [u8],
+    answer: &mut [u64; 8],
+)
+    ensures { λ _. ⌜ now (answer .exit) ≡ toldJoined (joins (now (cells .entry)) (now (first .entry)) (now (second .entry)) (now (out .entry)) .0) ⌝ }
+    ensures { λ _. ⌜ now (out .exit) ≡ joins (now (cells .entry)) (now (first .entry)) (now (second .entry)) (now (out .entry)) .1 ⌝ }
+{
+    *answer = tell_joined(joining::join_lists(cells, first, second, out));
 }

@@ -14,6 +14,7 @@ pub use books::purlquartz_write;
 pub use certificates::purlquartz_check_certificate;
 pub use entries::purlquartz_check_list;
 pub use entries::purlquartz_entry;
+pub use entries::purlquartz_join_lists;
 pub use entries::purlquartz_judge;
 pub use entries::purlquartz_next_entry;
 pub use entries::purlquartz_sort_list;

@@ -1,4 +1,6 @@
 pub mod Sorting
+pub mod FittedLaws
+pub mod StatewiseLaws
 pub mod OrderLaws
 pub mod PutLaws
 pub mod PutEntryLaws

@@ -4,9 +4,8 @@ use mathlib.Core.List.{List, [], _∷_, _++_}
 use mathlib.Core.Path.{_≡_, refl, sym, _∙_, ap}
 use Prim.Native.Nat.{ℕ, zero, suc, _+_, _≤_, _<_}
 use native.Mathlib.Decide.{ℕ-discrete}
-use native.Mathlib.Nat.{le-trans}
 use native.Mathlib.Omega.{arith}
-use borrow.Author.Tests.{eq-eqb, ne-eqb, eqb-true, le-ltb, ltb-false}
+use borrow.Author.Tests.{eq-eqb, eqb-true}
 use lib.Dec.{eqb}
 use Rattle.book.specs.Range.{among}
 use Rattle.book.specs.Tables.{Tables}
@@ -18,31 +17,35 @@ use Rattle.items.specs.Items.{Item}
 use Rattle.items.specs.Rearranged.{Rearranged, none as empty, same, swapped, then}
 use Rattle.items.specs.RearrangedLaws.{rearranged-refl, rearranged-append, rearranged-middle}
 use Rattle.items.specs.Valid.{AllValid, none as no-item, more as valid-more}
-use Rattle.course.specs.Course.{stateIn, inState, fault, clean, isLower, course}
+use Rattle.course.specs.Course.{stateIn, inState, clean, course}
 use Rattle.course.specs.CourseLaws.{Right, course-passes, passes-course, in-state-here, in-state-other}
 use Rattle.course.specs.EntryLaws.{item-below}
-use Rattle.sorting.specs.Sorting.{byState}
+use Rattle.sorting.specs.Sorting.{statewise, byState}
+use Rattle.sorting.specs.StatewiseLaws.{statewise-same, Ascending, ended, above, ascending-past, clean-ascending, Single, none as nothing, one, statewise-clean}
 
 -- ---- all entries fail in one of the first k states
 pub data AllBelow (B : Tables) (k : ℕ) : List Item → Type 0 where
   none : AllBelow B k []
   more : {x : Item} {xs : List Item} → stateIn B x < k → AllBelow B k xs → AllBelow B k (x ∷ xs)
 
+pub none-past : {B : Tables} {k : ℕ} {xs : List Item} (s : ℕ) → k ≤ s → AllBelow B k xs → inState B s xs ≡ []
+unfolding inState
+none-past s h none = refl
+none-past {B} s h (more {x} {xs} l b) = in-state-other B s x xs (λ e. omega (arith, e)) ∙ none-past s h b
+
 module _ (B : Tables) where
   -- ---- the same entries
   by-state-none : (k s : ℕ) → byState B [] k s ≡ []
-  unfolding byState inState
+  unfolding statewise inState
   by-state-none zero s = refl
   by-state-none (suc k) s = by-state-none k (suc s)
 
   -- an entry that fails in a lower state
   by-state-past : (x : Item) (xs : List Item) (k s : ℕ) → stateIn B x < s → byState B (x ∷ xs) k s ≡ byState B xs k s
-  unfolding byState
-  by-state-past x xs zero s h = refl
-  by-state-past x xs (suc k) s h = rw (in-state-other B s x xs (λ e. omega (arith, e)), by-state-past x xs k (suc s) (omega arith))
+  by-state-past x xs k s h = statewise-same (λ q. inState B q (x ∷ xs)) (λ q. inState B q xs) k s (λ q l m. in-state-other B q x xs (λ e. omega (arith, e)))
 
   by-state-more : (x : Item) (xs : List Item) (k s : ℕ) → s ≤ stateIn B x → stateIn B x < s + k → Rearranged (x ∷ byState B xs k s) (byState B (x ∷ xs) k s)
-  unfolding byState
+  unfolding statewise
   by-state-more x xs zero s l h = absurd (omega arith)
   by-state-more x xs (suc k) s l h = go (ℕ-discrete (stateIn B x) s) (λ m. by-state-more x xs k (suc s) m (omega arith))
     where
@@ -166,88 +169,31 @@ module _ (B : Tables) where
       go (no e) (no d) f = rw (in-state-other B s x (y ∷ xs) e, in-state-other B s y xs d, in-state-other B s y (x ∷ ys) d, in-state-other B s x ys e, f)
   in-state-same s (then p r) a = in-state-same s p a ∙ in-state-same s r (rearranged-apart p a)
 
-  by-state-same : (xs ys : List Item) → ((s : ℕ) → inState B s xs ≡ inState B s ys) → (k s : ℕ) → byState B xs k s ≡ byState B ys k s
-  unfolding byState
-  by-state-same xs ys e zero s = refl
-  by-state-same xs ys e (suc k) s = rw (e s, by-state-same xs ys e k (suc s))
-
   pub rearranged-sorted : {xs ys : List Item} {out : List ℕ} → Rearranged xs ys → course false B 0 [] xs ≡ clean out → (k : ℕ) → byState B xs k 0 ≡ byState B ys k 0
-  rearranged-sorted {xs} {ys} r c k = by-state-same xs ys (λ s. in-state-same s r (course-apart 0 [] xs c .0)) k 0
+  rearranged-sorted {xs} {ys} r c k =
+      statewise-same (λ s. inState B s xs) (λ s. inState B s ys) k 0 (λ s l h. in-state-same s r (course-apart 0 [] xs c .0))
 
--- ---- entries that are right, each in a higher state than the one before it, from a state on
-data Ascending (B : Tables) : ℕ → List Item → Type 0 where
-  ended : {s : ℕ} → Ascending B s []
-  above : {s : ℕ} {x : Item} {xs : List Item} → Right B x → s ≤ stateIn B x → Ascending B (suc (stateIn B x)) xs → Ascending B s (x ∷ xs)
-
-ascending-from : {B : Tables} {s t : ℕ} {xs : List Item} → s ≤ t → Ascending B t xs → Ascending B s xs
-ascending-from h ended = ended
-ascending-from h (above r l a) = above r (le-trans h l) a
-
--- after entries that fail in these states
-abbrev leastAfter : List ℕ → ℕ
-leastAfter [] = 0
-leastAfter (s ∷ ss) = suc s
-
-above-last : (s : ℕ) (ss : List ℕ) → isLower s ss ≡ false → among s ss ≡ false → leastAfter ss ≤ s
-above-last s [] l a = omega arith
-above-last s (t ∷ ss) l a = go (ℕ-discrete s t)
-  where
-    go : Dec (s ≡ t) → suc t ≤ s
-    go (yes e) = absurd (false≢true (sym a ∙ ap (λ (b : Bool). b || among s ss) (eq-eqb s t e)))
-    go (no n) = omega (arith, ltb-false s t l)
-
--- no state from one on is among these, nor is one lower than the last
-record Past (least : ℕ) (ss : List ℕ) : Type 0 where
-  pub upward : (s : ℕ) → least ≤ s → isLower s ss ≡ false
-  pub fresh : (s : ℕ) → least ≤ s → among s ss ≡ false
-
-past-more : {least : ℕ} {ss : List ℕ} (t : ℕ) → least ≤ t → Past least ss → Past (suc t) (t ∷ ss)
-past-more t l p = record {
-  upward = λ s h. le-ltb s t (omega arith);
-  fresh = λ s h. rw (ne-eqb s t (λ e. omega (arith, e))) (p .fresh s (omega arith));
-}
-
+-- ---- entries without a fault have at most one for each state
 module _ (B : Tables) where
-  course-ascending : (i : ℕ) (ss : List ℕ) (xs : List Item) {out : List ℕ} → course true B i ss xs ≡ clean out → Ascending B (leastAfter ss) xs
-  course-ascending i ss [] e = ended
-  course-ascending i ss (x ∷ xs) e =
-      let (p, c) = course-passes true B i ss x xs e in
-      above (p .right) (above-last (stateIn B x) ss (p .upward) (p .fresh)) (course-ascending (suc i) (stateIn B x ∷ ss) xs c)
-
-  ascending-course : (i : ℕ) {least : ℕ} {ss : List ℕ} {xs : List Item} → Past least ss → Ascending B least xs → (out : List ℕ) × (course true B i ss xs ≡ clean out)
-  unfolding course
-  ascending-course i {least} {ss} p ended = (ss, refl)
-  ascending-course i {least} {ss} p (above {s} {x} {xs} r l a) =
-      let (out, c) = ascending-course (suc i) (past-more (stateIn B x) l p) a in
-      (out, passes-course true B i ss x xs (record { right = r; upward = p .upward (stateIn B x) l; fresh = p .fresh (stateIn B x) l }) ∙ c)
-
-  -- ---- entries in state order ascend
-  in-state-ascends : (s : ℕ) {xs ys : List Item} → Apart B xs → Ascending B (suc s) ys → Ascending B s (inState B s xs ++ ys)
+  in-state-single : (s : ℕ) {xs : List Item} → Apart B xs → Single B s (inState B s xs)
   unfolding inState
-  in-state-ascends s alone u = ascending-from (omega arith) u
-  in-state-ascends s {ys} (apart {x} {xs} r n a) u = go (ℕ-discrete (stateIn B x) s) (in-state-ascends s a u)
+  in-state-single s alone = nothing
+  in-state-single s (apart {x} {xs} r n a) = go (ℕ-discrete (stateIn B x) s) (in-state-single s a)
     where
-      go : Dec (stateIn B x ≡ s) → Ascending B s (inState B s xs ++ ys) → Ascending B s (inState B s (x ∷ xs) ++ ys)
-      go (yes e) f = rw (in-state-here B s x xs e, ← e, n) (above {s = stateIn B x} r (omega arith) (rw (← e) at u))
+      go : Dec (stateIn B x ≡ s) → Single B s (inState B s xs) → Single B s (inState B s (x ∷ xs))
+      go (yes e) f = rw (in-state-here B s x xs e, ← e, n) (one r refl)
       go (no d) f = rw (in-state-other B s x xs d) f
 
-  by-state-ascends : {xs : List Item} → Apart B xs → (k s : ℕ) → Ascending B s (byState B xs k s)
-  unfolding byState
-  by-state-ascends a zero s = ended
-  by-state-ascends a (suc k) s = in-state-ascends s a (by-state-ascends a k (suc s))
+  pub clean-single : (xs : List Item) {states : List ℕ} → course false B 0 [] xs ≡ clean states → (s : ℕ) → Single B s (inState B s xs)
+  clean-single xs c s = in-state-single s (course-apart B 0 [] xs c .0)
 
-  -- entries without a fault that are brought into state order: the order holds, and no state is there twice
+  -- and are without one too when they are brought into state order, where order counts
   pub sorted-clean : (xs : List Item) {states : List ℕ} (k : ℕ) → course false B 0 [] xs ≡ clean states → (out : List ℕ) × (course true B 0 [] (byState B xs k 0) ≡ clean out)
-  sorted-clean xs k c = ascending-course 0 (record { upward = λ s h. refl; fresh = λ s h. refl }) (by-state-ascends (course-apart B 0 [] xs c .0) k 0)
+  sorted-clean xs k c = statewise-clean B (λ s. inState B s xs) (clean-single xs c) k
 
   -- ---- entries that ascend are in state order
-  ascending-past : (s : ℕ) {t : ℕ} {xs : List Item} → s < t → Ascending B t xs → inState B s xs ≡ []
-  unfolding inState
-  ascending-past s h ended = refl
-  ascending-past s h (above {x} {xs} r l a) = in-state-other B s x xs (λ e. omega (arith, e)) ∙ ascending-past s (omega arith) a
-
   ascending-kept : (k : ℕ) {s n : ℕ} {xs : List Item} → n ≤ s + k → Ascending B s xs → AllBelow B n xs → byState B xs k s ≡ xs
-  unfolding byState
+  unfolding statewise
   ascending-kept zero h ended none = refl
   ascending-kept zero h (above r l a) (more m b) = absurd (omega arith)
   ascending-kept (suc k) {s} h ended none = by-state-none B (suc k) s
@@ -257,12 +203,12 @@ module _ (B : Tables) where
       go : Dec (stateIn B x ≡ s) → ((ys : List Item) → Ascending B (suc s) ys → AllBelow B n ys → byState B ys k (suc s) ≡ ys)
           → inState B s (x ∷ xs) ++ byState B (x ∷ xs) k (suc s) ≡ x ∷ xs
       go (yes e) f =
-          rw (in-state-here B s x xs e, ascending-past s (omega (arith, e)) a, by-state-past B x xs k (suc s) (omega (arith, e)))
+          rw (in-state-here B s x xs e, ascending-past B s (omega (arith, e)) a, by-state-past B x xs k (suc s) (omega (arith, e)))
           (ap (λ (l : List Item). x ∷ l) (f xs (rw e at a) b))
       go (no d) f =
           let up : Ascending B (suc s) (x ∷ xs) = above {s = suc s} r (omega (arith, d)) a in
-          rw (ascending-past s (omega arith) up) (f (x ∷ xs) up (more m b))
+          rw (ascending-past B s (omega arith) up) (f (x ∷ xs) up (more m b))
 
   -- entries that are in order stay as they are
   pub ordered-kept : {xs : List Item} {out : List ℕ} → AllBelow B (B .states) xs → course true B 0 [] xs ≡ clean out → byState B xs (B .states) 0 ≡ xs
-  ordered-kept {xs} b c = ascending-kept (B .states) (omega arith) (course-ascending 0 [] xs c) b
+  ordered-kept {xs} b c = ascending-kept (B .states) (omega arith) (clean-ascending B c) b

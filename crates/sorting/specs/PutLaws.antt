@@ -25,3 +25,7 @@ put-byte from lent start at i h =
 -- at the front
 pub put-front : (piece lent : List ℕ) → length piece ≤ length lent → sets lent 0 piece ≡ over piece lent
 put-front piece lent h = let z : 0 + length piece ≡ length piece = omega arith in sets-eq piece lent 0 (omega arith) ∙ rw z
+
+pub put-both : (front more lent between out : List ℕ) (next : ℕ) → next ≡ length front → length (front ++ more) ≤ length lent → between ≡ sets lent 0 front → out ≡ sets between next more
+    → out ≡ over (front ++ more) lent
+put-both front more lent between out next e h f g = rw f at g ∙ put-more front more lent 0 next (omega arith) ∙ put-front (front ++ more) lent h

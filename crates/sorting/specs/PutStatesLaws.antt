@@ -13,10 +13,10 @@ use Rattle.items.specs.SpanLaws.{spanAt, spansAt, span-none, span-item}
 use Rattle.items.specs.WrittenLaws.{numbers-more}
 use Rattle.course.specs.Course.{inState}
 use Rattle.course.specs.Turns.{PlaceOf, none, one, Places}
-use Rattle.sorting.specs.Sorting.{byState}
+use Rattle.sorting.specs.Sorting.{statewise, byState}
 
 -- the bytes of entries after one another
-numbers-append : (xs ys : List Item) → bytesOf (numbersOf (xs ++ ys)) ≡ bytesOf (numbersOf xs) ++ bytesOf (numbersOf ys)
+pub numbers-append : (xs ys : List Item) → bytesOf (numbersOf (xs ++ ys)) ≡ bytesOf (numbersOf xs) ++ bytesOf (numbersOf ys)
 unfolding numbersOf
 numbers-append [] ys = refl
 numbers-append (x ∷ xs) ys =
@@ -26,7 +26,7 @@ numbers-append (x ∷ xs) ys =
     ∙ ap (λ (l : List ℕ). l ++ bytesOf (numbersOf ys)) (sym (numbers-more x xs))
 
 module _ {t : ℕ} (bytes : List ℕ) (b : Bytes bytes) (few : t ≤ 32) where
-  place-span : {place : ℕ} {xs : List Item} → PlaceOf t bytes place xs → spanAt bytes place ≡ bytesOf (numbersOf xs)
+  pub place-span : {place : ℕ} {xs : List Item} → PlaceOf t bytes place xs → spanAt bytes place ≡ bytesOf (numbersOf xs)
   unfolding numbersOf
   place-span none = span-none bytes
   place-span (one {place} {e} some f) =
@@ -36,7 +36,7 @@ module _ {t : ℕ} (bytes : List ℕ) (b : Bytes bytes) (few : t ≤ 32) where
   -- those of k states from s on
   pub spans-by-state : (B : Tables) (xs : List Item) (places : List ℕ) → length places ≡ 128 → Places B t bytes xs places → (k s : ℕ) → s + k ≤ 128
       → spansAt bytes (take k (drop s places)) ≡ bytesOf (numbersOf (byState B xs k s))
-  unfolding spansAt byState numbersOf
+  unfolding spansAt statewise numbersOf
   spans-by-state B xs places size kept zero s h = refl
   spans-by-state B xs places size kept (suc k) s h =
       let more = spans-by-state B xs places size kept k (suc s) (omega arith) in

@@ -4,10 +4,8 @@ use mathlib.Core.List.{List, [], _++_}
 use mathlib.Core.Path.{_≡_, sym, _∙_, ap}
 use Prim.Native.Nat.{ℕ, _+_, _≤_, _<_}
 use native.Mathlib.Omega.{arith}
-use borrow.Author.Tests.{le-leb, lt-leb}
 use lib.ListN.{length, take, length-append, length-map}
 use lib.Seq.{sets, length-take-le}
-use Rattle.number.specs.Lent.{over}
 use Rattle.number.specs.Number.{numberAt, written}
 use Rattle.number.specs.NumberLaws.{Bytes}
 use Rattle.number.specs.declared.Refusal.{Refusal}
@@ -33,8 +31,9 @@ use Rattle.course.specs.Course.{fault, clean, course}
 use Rattle.course.specs.Turns.{EntriesPassed, Clean}
 use Rattle.course.specs.declared.Faults.the-variants.{None, First}
 use Rattle.course.specs.declared.Judgement.{Judgement}
+use Rattle.sorting.specs.FittedLaws.{fitted-short, fitted-put}
 use Rattle.sorting.specs.OrderLaws.{clean-below, by-state-rearranged}
-use Rattle.sorting.specs.PutLaws.{put-more, put-front}
+use Rattle.sorting.specs.PutLaws.{put-both}
 use Rattle.sorting.specs.PutStatesLaws.{spans-by-state}
 use Rattle.sorting.specs.Sorting.{byState, sortedBytes, sortedBy, sortedIn, sorts}
 use Rattle.sorting.specs.declared.Sorted.{Sorted}
@@ -46,16 +45,14 @@ module _ (bytes more lent : List ℕ) (first : ℕ) (whole : first + length more
   sorted-length = rw (length-append, length-take-le first bytes (omega arith)) whole
 
   pub list-short : length lent < length bytes → (Refused (record { number = 12; place = 0 }), lent) ≡ sortedBy (take first bytes ++ more) (clean []) lent
-  list-short h = rw (sorted-length, lt-leb (length bytes) (length lent) h)
+  list-short h = fitted-short Count Refused (take first bytes ++ more) lent (omega (arith, sorted-length))
 
   pub list-put : (front out : List ℕ) → length bytes ≤ length lent → front ≡ sets lent 0 (take first bytes) → out ≡ sets front first more
       → (Count (length bytes), out) ≡ sortedBy (take first bytes ++ more) (clean []) lent
   list-put front out h e f =
-      let both : out ≡ over (take first bytes ++ more) lent =
-      rw e at f
-      ∙ put-more (take first bytes) more lent 0 first (rw (length-take-le first bytes (omega arith)) (omega arith))
-      ∙ put-front (take first bytes ++ more) lent (rw sorted-length h) in
-      rw (both, le-leb (length (take first bytes ++ more)) (length lent) (omega (arith, sorted-length))) (ap (λ (n : ℕ). (Count n, over (take first bytes ++ more) lent)) (sym sorted-length))
+      let room : length (take first bytes ++ more) ≤ length lent = omega (arith, sorted-length) in
+      let before : first ≡ length (take first bytes) = rw (length-take-le first bytes (omega arith)) in
+      fitted-put Count Refused (take first bytes ++ more) lent sorted-length h (put-both (take first bytes) more lent front out first before room e f)
 
 -- ---- a list that was accepted
 module _ (t : ℕ) {bytes : List ℕ} {rest : Rest} (s : ListAccepted bytes (listOf t bytes) rest) where

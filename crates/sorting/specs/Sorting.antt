@@ -1,28 +1,34 @@
 -- A list in state order: what sorting it answers and leaves. Assumes nothing.
 use Rattle.number.specs.Words.{false, cond, List, [], _++_, length, ℕ, zero, suc, leb}
-use Rattle.number.specs.Lent.{over}
+use Rattle.number.specs.{Lent.over, declared.Refusal.Refusal}
 use Rattle.book.specs.Tables.{Tables, tablesOf}
 use Rattle.lists.specs.List.{Listed, entries, refused, listIn}
 use Rattle.items.specs.Items.{Item, items, listBytes}
 use Rattle.course.specs.Course.{Course, fault, clean, course, inState}
 use Rattle.sorting.specs.declared.Sorted.{Sorted}
 
--- 'in ascending order of the state where they fail': those of k states from s on
-unfoldable pub byState : Tables → List Item → ℕ → ℕ → List Item
-byState B xs zero s = []
-byState B xs (suc k) s = inState B s xs ++ byState B xs k (suc s)
+-- 'in ascending order of the state where they fail': what is taken for each of k states from s on
+unfoldable pub statewise : (ℕ → List Item) → ℕ → ℕ → List Item
+statewise taken zero s = []
+statewise taken (suc k) s = taken s ++ statewise taken k (suc s)
+
+-- of these entries all
+abbrev pub byState : Tables → List Item → ℕ → ℕ → List Item
+byState B xs = statewise (λ s. inState B s xs)
 
 -- the bytes of the list that has these entries in state order
 abbrev pub sortedBytes : Tables → List Item → List ℕ
 sortedBytes B xs = listBytes (byState B xs (B .states) 0)
 
--- 'A converter sorts any list with no wrong or repeated entry and else gives the old judgement', that in which order does not count. The result
--- stands at the front of the lent bytes; '12 an output too short', and a refusal 'leaves all lent memory as it found it'
+-- a result that stands at the front of the lent bytes and is told by its length; '12 an output too short', and a refusal 'leaves all lent memory
+-- as it found it'
+abbrev pub fitted : {Answer : Type 0} → (ℕ → Answer) → (Refusal → Answer) → List ℕ → List ℕ → Answer × List ℕ
+fitted count refuse out lent = cond (leb (length out) (length lent)) (count (length out), over out lent) (refuse (record { number = 12; place = 0 }), lent)
+
+-- 'A converter sorts any list with no wrong or repeated entry and else gives the old judgement', that in which order does not count
 abbrev pub sortedBy : List ℕ → Course → List ℕ → Sorted × List ℕ
 sortedBy out (fault j) lent = (Sorted.Fault j, lent)
-sortedBy out (clean states) lent =
-    cond (leb (length out) (length lent)) (Sorted.Count (length out), over out lent)
-    (Sorted.Refused (record { number = 12; place = 0 }), lent)
+sortedBy out (clean states) lent = fitted Sorted.Count Sorted.Refused out lent
 
 -- the refusals of book and list come first
 abbrev pub sortedIn : Tables → List ℕ → Listed → List ℕ → Sorted × List ℕ

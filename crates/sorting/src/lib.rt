@@ -4,6 +4,7 @@ mod sort;
 
 use course::Judgement;
 use number::Refusal;
+pub use putting::put_entry;
 pub use sort::sort_list;
 
 // How many bytes the sorted list has; or the first wrong or repeated entry, as a judgement tells it; or the refusal.

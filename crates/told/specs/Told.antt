@@ -1,5 +1,5 @@
 -- The answers as numbers, for callers in other languages. Assumes nothing.
-use Rattle.number.specs.Words.{List, [], _∷_, replicate, ℕ}
+use Rattle.number.specs.Words.{List, [], _∷_, _++_, take, replicate, ℕ}
 use Rattle.number.specs.{Lent.over, declared.Refusal.Refusal}
 use Rattle.book.specs.{Call.Tells, declared.Checked.Checked, declared.Written.Written}
 use Rattle.machine.specs.{Run.stopOf, declared.Ending.Ending, declared.Ran.Ran, declared.Stop.Stop}
@@ -7,6 +7,7 @@ use Rattle.finder.specs.declared.Found.{Found}
 use Rattle.lists.specs.declared.{Listing.Listing, Next.Next, Nth.Nth}
 use Rattle.course.specs.declared.Judgement.{Judgement}
 use Rattle.sorting.specs.declared.Sorted.{Sorted}
+use Rattle.joining.specs.declared.{Joined.Joined, Which.Which}
 use Rattle.certificate.specs.{Certificate.order, declared.Verdict.Verdict}
 
 -- 'Where an answer is an enum, a definition gives this paper's number and values for each of its cases': eight numbers, the kind first
@@ -86,6 +87,21 @@ abbrev pub toldSorted : Sorted → List ℕ
 toldSorted (Sorted.Refused r) = toldRefusal r
 toldSorted (Sorted.Count n) = eight (1 ∷ n ∷ [])
 toldSorted (Sorted.Fault j) = toldJudged j
+
+-- 'and say which list's it is': 1 or 2 in the last of the numbers
+abbrev pub listOf : Which → ℕ
+listOf Which.First = 1
+listOf Which.Second = 2
+
+abbrev pub ofList : Which → List ℕ → List ℕ
+ofList which numbers = take 7 numbers ++ (listOf which ∷ [])
+
+-- how many bytes the joined list has, or the judgement or refusal of a list, and which; 0 for the book
+abbrev pub toldJoined : Joined → List ℕ
+toldJoined (Joined.Refused r) = toldRefusal r
+toldJoined (Joined.ListRefused which r) = ofList which (toldRefusal r)
+toldJoined (Joined.Count n) = eight (1 ∷ n ∷ [])
+toldJoined (Joined.Fault which j) = ofList which (toldJudged j)
 
 -- accepted; or 'The fault told is the first condition in this order .. with the lowest claim's index': the condition's number, from 0 for a
 -- claim over 1,002, and then the index

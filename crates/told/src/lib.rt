@@ -4,6 +4,7 @@ mod tell;
 pub use tell::tell_checked;
 pub use tell::tell_entry;
 pub use tell::tell_found;
+pub use tell::tell_joined;
 pub use tell::tell_judged;
 pub use tell::tell_listed;
 pub use tell::tell_next;

@@ -1,7 +1,7 @@
 // Each answer as a kind and its values.
 ghost use mathlib.Core.List.{[], _∷_};
 ghost use mathlib.Core.Path.{_≡_};
-ghost use Rattle.told.specs.Told.{eight, toldRefusal, toldWritten, toldChecked, kindOf, toldEnded, toldRan, toldFound, toldListed, toldEntry, toldNext, toldWrong, toldJudged, toldSorted, toldVerdict};
+ghost use Rattle.told.specs.Told.{eight, toldRefusal, toldWritten, toldChecked, kindOf, toldEnded, toldRan, toldFound, toldListed, toldEntry, toldNext, toldWrong, toldJudged, toldSorted, listOf, ofList, toldJoined, toldVerdict};
 ghost use Rattle.certificate.specs.Certificate.{order};
 use book::Checked;
 use book::Written;
@@ -9,6 +9,8 @@ use certificate::Condition;
 use certificate::Verdict;
 use course::Judgement;
 use finder::Found;
+use joining::Joined;
+use joining::Which;
 use lists::Listing;
 use lists::Next;
 use lists::Nth;
@@ -175,6 +177,35 @@ pub fn tell_sorted(s: Sorted) -> [u64; 8]
         Sorted::Refused(r) => tell_refusal(r),
         Sorted::Count(n) => few(1, n as u64, 0, 0),
         Sorted::Fault(j) => tell_judged(j),
+    }
+}
+
+fn list_of(which: Which) -> u64
+    ensures { λ n. ⌜ n ≡ listOf which ⌝ }
+{
+    match which {
+        Which::First => 1,
+        Which::Second => 2,
+    }
+}
+
+// An answer's numbers, the last of them for the list that it is about.
+fn of_list(which: Which, numbers: [u64; 8]) -> [u64; 8]
+    ensures { λ n. ⌜ n ≡ ofList which numbers ⌝ }
+{
+    let mut all = numbers;
+    all[7] = list_of(which);
+    all
+}
+
+pub fn tell_joined(j: Joined) -> [u64; 8]
+    ensures { λ n. ⌜ n ≡ toldJoined j ⌝ }
+{
+    match j {
+        Joined::Refused(r) => tell_refusal(r),
+        Joined::ListRefused(which, r) => of_list(which, tell_refusal(r)),
+        Joined::Count(n) => few(1, n as u64, 0, 0),
+        Joined::Fault(which, fault) => of_list(which, tell_judged(fault)),
     }
 }
 

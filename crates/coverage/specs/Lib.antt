@@ -1,0 +1,3 @@
+pub mod UnionLaws
+pub mod JoiningLaws
+pub mod CoverageLaws

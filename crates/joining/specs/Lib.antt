@@ -1,0 +1,4 @@
+pub mod Joining
+pub mod Pieces
+pub mod PiecesLaws
+pub mod JoinLaws
