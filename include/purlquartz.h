@@ -23,15 +23,17 @@
  *
  * Call stack. purlquartz_find and purlquartz_find_break use less than 700,000 bytes of it;
  * purlquartz_judge less than 80,000; purlquartz_map, purlquartz_sets and
- * purlquartz_check_certificate less than 60,000; purlquartz_run and purlquartz_sort_list less than
- * 25,000; every other call less than 1,000. These are rounded up from what was measured.
+ * purlquartz_check_certificate less than 60,000; purlquartz_run, purlquartz_sort_list and
+ * purlquartz_join_lists less than 25,000; every other call less than 1,000. These are rounded up
+ * from what was measured.
  *
  * Answers. Every call fills answer[0] to answer[7]: answer[0] is the kind, the others its values,
  * unused ones 0. The answer must not be null, and must overlap no slice. Kind 0 is a refusal,
  * answer[1] its number and answer[2] its place; then no lent memory but the answer has changed.
  * All inputs are checked before anything else happens, in the order: the book's cells or bytes;
- * the list, sentence or certificate; then 17, 10, 11, 13, 12. The 12 of purlquartz_sort_list alone
- * comes later, once it is known that there is a result.
+ * the list or lists, sentence or certificate; then 17, 10, 11, 13, 12. The 12 of
+ * purlquartz_sort_list and of purlquartz_join_lists alone comes later, once it is known that there
+ * is a result.
  *
  *   number  cause                                              place
  *   1   a book, list or part of a certificate stops before a   where the missing number begins
@@ -112,6 +114,13 @@ extern "C" {
 
 /* answer[0] of purlquartz_sort_list, besides PURLQUARTZ_REPEAT and PURLQUARTZ_WRONG. */
 #define PURLQUARTZ_SORTED 1u
+
+/* answer[0] of purlquartz_join_lists, besides PURLQUARTZ_REPEAT, PURLQUARTZ_WRONG and
+ * PURLQUARTZ_OUT_OF_ORDER; and answer[7] of it, whose fault or refusal it is. */
+#define PURLQUARTZ_JOINED 1u
+#define PURLQUARTZ_NO_LIST 0u
+#define PURLQUARTZ_FIRST_LIST 1u
+#define PURLQUARTZ_SECOND_LIST 2u
 
 /* answer[0] of purlquartz_check_certificate, and answer[1] of a fault. */
 #define PURLQUARTZ_CERTIFICATE_ACCEPTED 1u
@@ -328,6 +337,26 @@ void purlquartz_sort_list(const uint16_t *cells, size_t cell_count,
                           const uint8_t *list, size_t list_count,
                           uint8_t *bytes, size_t byte_count,
                           uint64_t answer[8]);
+
+/*
+ * Joins two lists for the same book: of each state that an entry of either list fails in, writes
+ * the entry with fewer symbols to the first lent bytes, at equal length the first list's, in
+ * ascending order of the states; the bytes after them keep their values. Both lists must be
+ * complete or uncovered, as purlquartz_judge has it. The result is a list without a fault, and
+ * complete if every state with a failing pair has an entry in one of the lists.
+ * Kinds: 1 joined, answer[1] is how many bytes were written; 3 repeat, 4 wrong and 5 out of order,
+ * the first list's fault, or the second's if the first has none, with the values of
+ * purlquartz_judge, and answer[7] is 1 or 2 for the list; then no lent byte has changed.
+ * Refusals: those of purlquartz_check, answer[7] is 0; then those of purlquartz_check_list for the
+ * first list, answer[7] is 1, and for the second, answer[7] is 2, each with an offset in its own
+ * list and before any fault; 12 if there is a result and it has more bytes than are lent,
+ * answer[7] is 0.
+ */
+void purlquartz_join_lists(const uint16_t *cells, size_t cell_count,
+                           const uint8_t *first, size_t first_count,
+                           const uint8_t *second, size_t second_count,
+                           uint8_t *bytes, size_t byte_count,
+                           uint64_t answer[8]);
 
 /*
  * Checks a certificate, whoever made it. What is accepted is the book's map: the claims for pairs

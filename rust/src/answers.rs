@@ -171,6 +171,37 @@ pub enum Sorted {
     Wrong { entry: usize, ending: Ending },
 }
 
+/// One of the two lists that [`join_lists`](crate::join_lists()) is given.
+#[derive(Clone, Copy, Debug, PartialEq, Eq)]
+pub enum Which {
+    First,
+    Second,
+}
+
+/// What [`join_lists`](crate::join_lists()) says of two lists.
+#[derive(Clone, Copy, Debug, PartialEq, Eq)]
+pub enum Joined {
+    /// The first so many lent bytes are the joined list.
+    List(usize),
+    /// The first list that has a fault, and its judgement: [`Judgement::Repeat`],
+    /// [`Judgement::Wrong`] or [`Judgement::OutOfOrder`].
+    Fault { list: Which, judgement: Judgement },
+}
+
+/// Why [`join_lists`](crate::join_lists()) was refused. The list is the one that the refusal is of,
+/// and its place is an offset there; none if the refusal is of the book or of the lent bytes.
+#[derive(Clone, Copy, Debug, PartialEq, Eq)]
+pub struct JoinRefusal {
+    pub list: Option<Which>,
+    pub refusal: Refusal,
+}
+
+impl From<JoinRefusal> for Refusal {
+    fn from(refused: JoinRefusal) -> Refusal {
+        refused.refusal
+    }
+}
+
 /// What the checker says of a certificate.
 #[derive(Clone, Copy, Debug, PartialEq, Eq)]
 pub enum Verdict {

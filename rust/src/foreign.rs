@@ -129,6 +129,17 @@ extern "C" {
         byte_count: usize,
         answer: *mut u64,
     );
+    fn purlquartz_join_lists(
+        cells: *const u16,
+        cell_count: usize,
+        first: *const u8,
+        first_count: usize,
+        second: *const u8,
+        second_count: usize,
+        bytes: *mut u8,
+        byte_count: usize,
+        answer: *mut u64,
+    );
     fn purlquartz_check_certificate(
         cells: *const u16,
         cell_count: usize,
@@ -364,6 +375,24 @@ pub(crate) fn sort_list(cells: &[u16], list: &[u8], bytes: &mut [u8]) -> Answer 
             cells.len(),
             list.as_ptr(),
             list.len(),
+            bytes.as_mut_ptr(),
+            bytes.len(),
+            answer.as_mut_ptr(),
+        )
+    }
+    answer
+}
+
+pub(crate) fn join_lists(cells: &[u16], first: &[u8], second: &[u8], bytes: &mut [u8]) -> Answer {
+    let mut answer = [0; 8];
+    unsafe {
+        purlquartz_join_lists(
+            cells.as_ptr(),
+            cells.len(),
+            first.as_ptr(),
+            first.len(),
+            second.as_ptr(),
+            second.len(),
             bytes.as_mut_ptr(),
             bytes.len(),
             answer.as_mut_ptr(),

@@ -7,14 +7,15 @@
 //!
 //! All memory is lent by the caller. Each call checks its inputs whole before it writes anything,
 //! so that a refused call changes nothing. Refusals come in the order: the book's, those of the
-//! list, sentence or certificate, then 17, 10, 11, 13, 12. The 12 of [`sort_list`] alone comes
-//! later, once it is known that there is a result.
+//! list or lists, sentence or certificate, then 17, 10, 11, 13, 12. The 12 of [`sort_list`] and of
+//! [`join_lists`] alone comes later, once it is known that there is a result.
 //!
 //! A pair of a state and a lookahead *fails* if its action is error and some sequence of terminals
 //! reaches it, or if its action is reduce and with some sequence that reduction cannot be done.
 //! [`find`] and [`find_break`] answer the shortest such sentence, and [`judge`] whether a list has
 //! one for every state that has a failing pair. The entries of a list have to stand in ascending
-//! order of the state where they fail, which [`sort_list`] brings them into.
+//! order of the state where they fail, which [`sort_list`] brings them into. [`join_lists`] makes
+//! one list of two.
 //!
 //! A *certificate* shows that a map is a book's map: [`check_certificate`] looks whether it does,
 //! and [`certificate::make`] makes one.
@@ -233,17 +234,7 @@ pub fn judge(
         2 => Judgement::Uncovered {
             state: answer[1] as u16,
         },
-        3 => Judgement::Repeat {
-            entry: answer[1] as usize,
-        },
-        4 => Judgement::Wrong {
-            entry: answer[1] as usize,
-            ending: wrong_ending(&answer),
-        },
-        5 => Judgement::OutOfOrder {
-            entry: answer[1] as usize,
-        },
-        kind => unknown(kind),
+        _ => fault(&answer),
     })
 }
 
@@ -266,6 +257,34 @@ pub fn sort_list(cells: &[u16], list: &[u8], bytes: &mut [u8]) -> Result<Sorted,
             ending: wrong_ending(&answer),
         },
         kind => unknown(kind),
+    })
+}
+
+/// Joins two lists for the same book, and answers how many bytes that has: for each state that an
+/// entry of either list fails in, the entry with fewer symbols is written to the first lent bytes,
+/// at equal length the first list's, in ascending order of the states. The bytes after them keep
+/// their values. Both lists have to be without a fault by [`judge`]: else the first list's fault is
+/// told, or the second's if the first has none, and then no byte is written. The result has no
+/// fault, and is complete if each state with a failing pair has an entry in one of them.
+///
+/// Refusals: those of [`check`]; those of [`check_list`] for the first list, then for the second,
+/// before any fault; 12 if there is a result and it has more bytes than are lent.
+pub fn join_lists(
+    cells: &[u16],
+    first: &[u8],
+    second: &[u8],
+    bytes: &mut [u8],
+) -> Result<Joined, JoinRefusal> {
+    let answer = foreign::join_lists(cells, first, second, bytes);
+    let list = whose(answer[7]);
+    let answer = accepted(answer).map_err(|refusal| JoinRefusal { list, refusal })?;
+    Ok(match (answer[0], list) {
+        (1, None) => Joined::List(answer[1] as usize),
+        (_, Some(list)) => Joined::Fault {
+            list,
+            judgement: fault(&answer),
+        },
+        (kind, None) => unknown(kind),
     })
 }
 
@@ -335,6 +354,20 @@ fn one_entry(answer: &Answer) -> Option<Entry> {
     }
 }
 
+/// The judgement of a list that is neither complete nor uncovered.
+fn fault(answer: &Answer) -> Judgement {
+    let entry = answer[1] as usize;
+    match answer[0] {
+        3 => Judgement::Repeat { entry },
+        4 => Judgement::Wrong {
+            entry,
+            ending: wrong_ending(answer),
+        },
+        5 => Judgement::OutOfOrder { entry },
+        kind => unknown(kind),
+    }
+}
+
 /// How the run of a wrong entry ended.
 fn wrong_ending(answer: &Answer) -> Ending {
     ending(answer[2], [answer[3], answer[4], answer[5]])
@@ -354,6 +387,16 @@ fn ending(kind: u64, [state, symbol, taken]: [u64; 3]) -> Ending {
         5 => Ending::Deep(stop),
         6 => Ending::Spinning(stop),
         kind => unknown(kind),
+    }
+}
+
+/// The list that an answer to a joining is about, if about one.
+fn whose(number: u64) -> Option<Which> {
+    match number {
+        0 => None,
+        1 => Some(Which::First),
+        2 => Some(Which::Second),
+        number => unknown(number),
     }
 }
 

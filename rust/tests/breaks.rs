@@ -19,7 +19,7 @@ use both::Calls;
 use independent::book::{Action, Book, Production};
 use made::{after, doubling, growing, hand_book, shifted, thousand, without_goto};
 use purlquartz::*;
-use random::lists::{covering, encode_list, Line};
+use random::lists::{covering, encode_list, line, Line};
 use random::ranks::in_every_order;
 use random::Random;
 use shipped::{shipped, SHIPPED};
@@ -90,14 +90,7 @@ fn run(calls: &Calls, book: &Book, sentence: &[u8], lookahead: u16) -> Ending {
 }
 
 fn judge(calls: &Calls, book: &Book, lines: &[Line]) -> Judgement {
-    let list = encode_list(lines);
-    let mut work = vec![0; book.sizes.work_cells()];
-    let judged = (calls.judge)(&book.cells(), &list, &mut work, &mut [0; STACK_CELLS]);
-    judged.expect("no refusal")
-}
-
-fn line(sentence: &[u8], lookahead: u16) -> Line {
-    (sentence.to_vec(), lookahead)
+    both::lists::judge(calls, book, &encode_list(lines))
 }
 
 fn stop(state: usize, symbol: u16, taken: u16) -> Stop {

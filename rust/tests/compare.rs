@@ -27,7 +27,8 @@ use random::books::{
 use random::bytes::{damaged, damaged_cells};
 use random::grammars::long_book;
 use random::lists::{
-    covering, damaged_list, encode_list, lines, sentence, taken_sentence, varied, Line,
+    covering, damaged_list, encode_list, failing_lines, line, lines, sentence, taken_sentence,
+    two_lists, varied, Line,
 };
 use random::ranks::{in_every_order, ranked, unranked};
 use random::Random;
@@ -551,6 +552,82 @@ fn ends_broken(book: &Book, (sentence, lookahead): &Line) -> bool {
     matches!(ending, Ending::Broken(stop) if usize::from(stop.taken) == sentence.len())
 }
 
+/// Two lists joined, so many times, either of which may be damaged.
+fn compare_joinings(
+    random: &mut Random,
+    tally: &mut Tally,
+    book: &Book,
+    cells: &[u16],
+    times: usize,
+) {
+    let failing = failing_lines(random, book);
+    for _ in 0..times {
+        let lists = two_lists(random, book, &failing);
+        let [first, second] = lists.map(|lines| match random.percent(15) {
+            true => damaged_list(random, &lines, book.sizes.terminals),
+            false => encode_list(&lines),
+        });
+        let mut enough = vec![0; first.len() + second.len()];
+        let needed = match (INDEPENDENT.join_lists)(cells, &first, &second, &mut enough) {
+            Ok(Joined::List(count)) => count,
+            _ => enough.len(),
+        };
+        let bytes = lend(random, needed);
+        let outcome = compare::join_lists(&LIBRARY, cells, [&first, &second], &bytes);
+        tally.note("join_lists", outcome, cells);
+    }
+}
+
+const JOINED: &str = "List 12 FirstRepeat FirstWrong FirstOutOfOrder \
+                      SecondRepeat SecondWrong SecondOutOfOrder";
+
+#[test]
+fn two_lists_of_small_books() {
+    let mut random = Random::new(29);
+    let mut tally = Tally::default();
+    for _ in 0..15_000 {
+        let book = small_book(&mut random);
+        let cells = some_cells(&mut random, &book);
+        compare_joinings(&mut random, &mut tally, &book, &cells, 3);
+    }
+    tally.expect("join_lists", JOINED);
+    tally.expect("join_lists", "1 3 4 5 16 14 15 6");
+    for number in [1, 2, 6, 7, 8, 9, 11] {
+        let words = format!("First{number} Second{number}");
+        tally.expect("join_lists", &words);
+    }
+}
+
+#[test]
+fn two_lists_of_books_that_break() {
+    let mut random = Random::new(30);
+    let mut tally = Tally::default();
+    for _ in 0..4_000 {
+        let book = breaking_book(&mut random);
+        compare_joinings(&mut random, &mut tally, &book, &book.cells(), 3);
+    }
+    tally.expect("join_lists", JOINED);
+}
+
+/// Many lists for each book.
+#[test]
+fn two_lists_of_larger_books() {
+    let mut random = Random::new(31);
+    let mut tally = Tally::default();
+    let mut books: Vec<Book> = SHIPPED.into_iter().map(shipped).collect();
+    for _ in 0..50 {
+        books.push(long_book(&mut random));
+        books.push(medium_book(&mut random));
+    }
+    for book in books {
+        let changed = breakable(&mut random, &book, 6);
+        for book in [book, changed] {
+            compare_joinings(&mut random, &mut tally, &book, &book.cells(), 60);
+        }
+    }
+    tally.expect("join_lists", JOINED);
+}
+
 /// The comparison must notice a wrong map, a wrong place, and writes where there should be none.
 mod faults {
     use super::*;
@@ -745,6 +822,56 @@ mod faults {
         assert_eq!(noticed(left_as_it_is), [false, true, true]);
         assert_eq!(noticed(byte_after_list), [true, true, true]);
         assert_eq!(noticed(byte_in_any_case), [false, false, true]);
+    }
+
+    type Joining = Result<Joined, JoinRefusal>;
+
+    fn the_second_first(cells: &[u16], one: &[u8], other: &[u8], bytes: &mut [u8]) -> Joining {
+        (INDEPENDENT.join_lists)(cells, other, one, bytes)
+    }
+
+    fn the_first_alone(cells: &[u16], one: &[u8], _: &[u8], bytes: &mut [u8]) -> Joining {
+        (INDEPENDENT.join_lists)(cells, one, one, bytes)
+    }
+
+    fn byte_after_joined(cells: &[u16], one: &[u8], other: &[u8], bytes: &mut [u8]) -> Joining {
+        let answer = (INDEPENDENT.join_lists)(cells, one, other, bytes);
+        bytes[19] = 0;
+        answer
+    }
+
+    /// Also where there is no result.
+    fn count_in_any_case(cells: &[u16], one: &[u8], other: &[u8], bytes: &mut [u8]) -> Joining {
+        bytes[0] = 1;
+        (INDEPENDENT.join_lists)(cells, one, other, bytes)
+    }
+
+    /// Lists of one entry: the same, another of equal length, a shorter one, and a wrong one.
+    #[test]
+    fn a_wrong_joining_is_noticed() {
+        let start = line(&[], 0);
+        let lists = [
+            [start.clone(), start.clone()],
+            [start.clone(), line(&[], 3)],
+            [line(&[2, 1], 1), line(&[1], 1)],
+            [line(&[], 1), start],
+        ];
+        let lists = lists.map(|lines| lines.map(|line| encode_list(&[line])));
+        let noticed = |join_lists| {
+            let subject = Calls {
+                join_lists,
+                ..INDEPENDENT
+            };
+            let bytes = Lent::holding(&[7; 20]);
+            lists.each_ref().map(|[first, second]| {
+                compare::join_lists(&subject, &bracket(), [first, second], &bytes).is_err()
+            })
+        };
+        assert_eq!(noticed(INDEPENDENT.join_lists), [false; 4]);
+        assert_eq!(noticed(the_second_first), [false, true, false, true]);
+        assert_eq!(noticed(the_first_alone), [false, false, true, false]);
+        assert_eq!(noticed(byte_after_joined), [true; 4]);
+        assert_eq!(noticed(count_in_any_case), [false, false, false, true]);
     }
 
     fn cell_after_book(cells: &[u16], lent: &mut [u16]) -> Result<usize, Refusal> {

@@ -15,7 +15,7 @@ mod random;
 use both::Calls;
 use purlquartz::*;
 use random::books::{small_book, tied_book};
-use random::lists::{damaged_list, encode_list, lines, Line};
+use random::lists::{damaged_list, encode_list, failing_lines, lines, two_lists, Line};
 use random::ranks::unranked;
 use random::Random;
 
@@ -34,18 +34,24 @@ fn converted(calls: &Calls, form: u16, cells: &[u16]) -> Vec<u16> {
     lent
 }
 
-/// Sentences to run, and lists of them to read and judge, one as a rule refused.
+/// Sentences to run; lists of them to read and judge, one as a rule refused; and lists to join.
 struct Questions {
     lines: Vec<Line>,
     lists: [Vec<u8>; 2],
+    joined: [[Vec<u8>; 2]; 2],
 }
 
 impl Questions {
     fn new(random: &mut Random, book: &independent::book::Book) -> Questions {
         let lines = lines(random, book);
         let bad = damaged_list(random, &lines, book.sizes.terminals);
-        let lists = [encode_list(&lines), bad];
-        Questions { lines, lists }
+        let failing = failing_lines(random, book);
+        let [first, second] = two_lists(random, book, &failing).map(|lines| encode_list(&lines));
+        Questions {
+            joined: [[first.clone(), second], [first, bad.clone()]],
+            lists: [encode_list(&lines), bad],
+            lines,
+        }
     }
 }
 
@@ -58,6 +64,8 @@ struct Answers {
     /// Each with the stack.
     runs: Vec<(Result<Ending, Refusal>, Vec<u16>)>,
     lists: Vec<ListAnswers>,
+    /// Each with the bytes written.
+    joined: [(Result<Joined, JoinRefusal>, Vec<u8>); 2],
 }
 
 #[derive(Debug, PartialEq)]
@@ -96,6 +104,11 @@ fn answers(calls: &Calls, cells: &[u16], questions: &Questions) -> Answers {
         set_sizes,
         runs: runs.collect(),
         lists: lists.collect(),
+        joined: questions.joined.each_ref().map(|[first, second]| {
+            let mut bytes = vec![0; first.len() + second.len()];
+            let answer = (calls.join_lists)(cells, first, second, &mut bytes);
+            (answer, bytes)
+        }),
     }
 }
 

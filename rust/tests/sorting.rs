@@ -15,13 +15,14 @@ mod made;
 mod random;
 mod shipped;
 
+use both::lists::{is_fault, judge, lines_of, sort, sort_into, states, UNTOUCHED};
 use both::Calls;
 use independent::book::Book;
-use made::hand_book;
+use made::{bracket_lines, ladder, ladder_lines, lengthened};
 use purlquartz::*;
 use random::books::{breakable, breaking_book, medium_book, small_book};
 use random::grammars::long_book;
-use random::lists::{covering, encode_list, lines, varied, Line};
+use random::lists::{covering, encode_list, line, lines, list_of, varied, Line};
 use random::{every_order, Random};
 use shipped::{shipped, SHIPPED};
 
@@ -40,69 +41,6 @@ on_both! {
     laws_where_reductions_break
     laws_of_long_sentences
     laws_of_shipped_books
-}
-
-/// What lent bytes hold before a call.
-const UNTOUCHED: u8 = 0xa5;
-
-fn judge(calls: &Calls, book: &Book, list: &[u8]) -> Judgement {
-    let mut work = vec![0; book.sizes.work_cells()];
-    let judged = (calls.judge)(&book.cells(), list, &mut work, &mut [0; STACK_CELLS]);
-    judged.expect("no refusal")
-}
-
-/// The answer with so many lent bytes, and what these hold then.
-fn sort_into(calls: &Calls, cells: &[u16], list: &[u8], room: usize) -> (Answer, Vec<u8>) {
-    let mut bytes = vec![UNTOUCHED; room];
-    let answer = (calls.sort_list)(cells, list, &mut bytes);
-    (answer, bytes)
-}
-
-type Answer = Result<Sorted, Refusal>;
-
-/// The sorted list, or the fault, which must not depend on how many bytes are lent, if they are
-/// enough. Other bytes keep their values, and too few are refused.
-fn sort(calls: &Calls, book: &Book, list: &[u8]) -> Result<Vec<u8>, Sorted> {
-    let cells = book.cells();
-    let sort_into = |room| sort_into(calls, &cells, list, room);
-    let (answer, mut bytes) = sort_into(list.len() + 3);
-    let answer = answer.expect("no refusal");
-    let Sorted::List(count) = answer else {
-        assert_eq!(bytes, [UNTOUCHED].repeat(bytes.len()));
-        for room in [0, list.len()] {
-            assert_eq!(sort_into(room), (Ok(answer), vec![UNTOUCHED; room]));
-        }
-        return Err(answer);
-    };
-    assert_eq!(count, list.len());
-    assert_eq!(bytes[count..], [UNTOUCHED; 3]);
-    bytes.truncate(count);
-    assert_eq!(sort_into(count), (Ok(answer), bytes.clone()));
-    let short = Refusal {
-        number: 12,
-        place: 0,
-    };
-    for room in [0, count - 1] {
-        assert_eq!(sort_into(room), (Err(short), vec![UNTOUCHED; room]));
-    }
-    Ok(bytes)
-}
-
-fn line(sentence: &[u8], lookahead: u16) -> Line {
-    (sentence.to_vec(), lookahead)
-}
-
-/// The list of some of the lines, in this order.
-fn list_of(lines: &[Line], order: &[usize]) -> Vec<u8> {
-    let lines: Vec<Line> = order.iter().map(|&at| lines[at].clone()).collect();
-    encode_list(&lines)
-}
-
-/// The specification's list for Bracket: one entry for each state, by rising state.
-fn bracket_lines() -> Vec<Line> {
-    let sentences: [&[u8]; 6] = [&[], &[1], &[2], &[1], &[2, 1], &[2, 1, 3]];
-    let lines = sentences.into_iter().zip([0, 1, 0, 3, 0, 1]);
-    lines.map(|(symbols, next)| line(symbols, next)).collect()
 }
 
 /// The index of the first number that is lower than the one before it.
@@ -256,33 +194,6 @@ fn no_entry_and_one(calls: &Calls) {
     }
 }
 
-/// 128 states, each 37 after the one before it, that follow one another by 1, the last by itself;
-/// by 2 each is followed by itself. With the end mark next the even states fail in error, and the
-/// odd ones break a reduction.
-fn ladder() -> Book {
-    let mut actions = vec![0; 128 * 3];
-    for step in 0..128 {
-        let state = rung(step);
-        let next = rung((step + 1).min(127));
-        let failing = 3 * (state as u16 % 2);
-        let row = [failing, 2 + 2 * next as u16, 2 + 2 * state as u16];
-        actions[3 * state..][..3].copy_from_slice(&row);
-    }
-    hand_book([3, 1, 128, 1], &[[0, 1]], &actions, &[0; 128])
-}
-
-/// The state of the ladder after so many times 1.
-fn rung(step: usize) -> usize {
-    37 * step % 128
-}
-
-/// For each state of the ladder the shortest line that fails there, by rising state.
-fn ladder_lines() -> Vec<Line> {
-    let mut lines: Vec<Line> = (0..128).map(|step| (vec![1; step], 0)).collect();
-    lines.sort_by_key(|(sentence, _)| rung(sentence.len()));
-    lines
-}
-
 fn every_state_of_128(calls: &Calls) {
     let book = ladder();
     let lines = ladder_lines();
@@ -353,10 +264,7 @@ fn faults_among_128(calls: &Calls) {
 /// 128 entries of 1,000 symbols.
 fn longest_list(calls: &Calls) {
     let book = ladder();
-    let mut lines = ladder_lines();
-    for (sentence, _) in &mut lines {
-        sentence.resize(1_000, 2);
-    }
+    let mut lines = lengthened(ladder_lines(), 1_000);
     let sorted = encode_list(&lines);
     assert_eq!(sorted.len(), 2 + 128 * 1_003);
     assert_eq!(judge(calls, &book, &sorted), Judgement::Complete);
@@ -431,27 +339,6 @@ fn content(calls: &Calls, book: &Book, list: &[u8]) -> Vec<Line> {
     lines
 }
 
-fn lines_of(calls: &Calls, book: &Book, list: &[u8]) -> Vec<Line> {
-    let entries = (calls.entries)(&book.cells(), list).expect("a good list");
-    let lines = entries
-        .iter()
-        .map(|entry| line(entry.symbols(list), entry.lookahead));
-    lines.collect()
-}
-
-/// The states that the runs of a list's entries end in.
-fn states(calls: &Calls, book: &Book, list: &[u8]) -> Vec<u16> {
-    let cells = book.cells();
-    let lines = lines_of(calls, book, list).into_iter();
-    let states = lines.map(|(sentence, lookahead)| {
-        match (calls.run)(&cells, &sentence, lookahead, &mut [0; STACK_CELLS]) {
-            Ok(Ending::Error(stop) | Ending::Broken(stop)) => stop.state,
-            other => panic!("{other:?} in a sorted list"),
-        }
-    });
-    states.collect()
-}
-
 /// What holds of every list, be it sorted or not.
 fn laws(calls: &Calls, random: &mut Random, tally: &mut Tally, book: &Book, mut lines: Vec<Line>) {
     let list = encode_list(&lines);
@@ -491,8 +378,7 @@ fn sorted_laws(calls: &Calls, book: &Book, list: &[u8], sorted: &[u8]) {
         "{states:?}"
     );
     let judgement = judge(calls, book, sorted);
-    let faultless = matches!(judgement, Judgement::Complete | Judgement::Uncovered { .. });
-    assert!(faultless, "{judgement:?}");
+    assert!(!is_fault(judgement), "{judgement:?}");
     assert_eq!(sort(calls, book, sorted), Ok(sorted.to_vec()));
 }
 

@@ -21,7 +21,7 @@ use independent::book::Book;
 use measure::{ratio, shown, Subject};
 use purlquartz::Sizes;
 use random::books::{breakable, wild, Taste};
-use random::lists::{covering_errors, encode_list};
+use random::lists::{covering_errors, encode_list, failing_lines, Line};
 use random::ranks::ranked;
 use random::Random;
 use std::{env, fs};
@@ -46,6 +46,8 @@ fn main() {
     print_breaks(quick);
     println!();
     print_sortings();
+    println!();
+    print_joinings();
     println!();
     print_growth(quick);
     println!();
@@ -218,6 +220,57 @@ fn print_sorting(name: &str, book: &Book) {
         sorted.len(),
         times.join(" | ")
     );
+}
+
+/// Lists with an entry for each state that fails: the shortest sentences joined with the longest of
+/// some others, and the former in two, every other entry in each.
+fn print_joinings() {
+    println!(
+        "| book | entries | bytes | of the other list | join_lists \
+         | bytes, every other entry | join_lists |"
+    );
+    println!("|---|---|---|---|---|---|---|");
+    for name in SHIPPED {
+        print_joining(name, &shipped(name));
+    }
+    print_joining("doubling", &doubling());
+}
+
+fn print_joining(name: &str, book: &Book) {
+    let library = Subject::new(&both::LIBRARY, book);
+    let independent = Subject::new(&both::INDEPENDENT, book);
+    let states = failing_lines(&mut Random::new(1), book);
+    let length = |line: &&Line| line.0.len();
+    let shortest = chosen(&states, |lines| lines.iter().min_by_key(length));
+    let longest = chosen(&states, |lines| lines.iter().max_by_key(length));
+    let joined = encode_list(&shortest);
+    let longest = encode_list(&longest);
+    let halves = [0, 1].map(|first| {
+        let half = shortest.iter().skip(first).step_by(2);
+        encode_list(&half.cloned().collect::<Vec<_>>())
+    });
+    let times = [[&joined, &longest], halves.each_ref()].map(|lists| {
+        both_times(
+            library.join_lists(lists, &joined),
+            independent.join_lists(lists, &joined),
+        )
+    });
+    println!(
+        "| {name} | {} | {} | {} | {} | {} and {} | {} |",
+        shortest.len(),
+        joined.len(),
+        longest.len(),
+        times[0],
+        halves[0].len(),
+        halves[1].len(),
+        times[1]
+    );
+}
+
+/// One of the lines of each state that has any.
+fn chosen(states: &[Vec<Line>], choose: impl Fn(&[Line]) -> Option<&Line>) -> Vec<Line> {
+    let lines = states.iter().filter_map(|lines| choose(lines));
+    lines.cloned().collect()
 }
 
 /// The check of true certificates beside the map. The maker is of this package, and not proved.

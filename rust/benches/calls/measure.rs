@@ -197,6 +197,16 @@ impl<'a> Subject<'a> {
         time
     }
 
+    pub fn join_lists(&self, [first, second]: [&Vec<u8>; 2], joined: &[u8]) -> Time {
+        let mut bytes = vec![0; joined.len()];
+        let time = timed(|| {
+            let answer = (self.calls.join_lists)(&self.cells, first, second, &mut bytes);
+            black_box(answer).expect("a list");
+        });
+        assert_eq!(bytes, joined, "a wrong list has no time");
+        time
+    }
+
     pub fn certificate(&self) -> Certificate {
         make(&self.cells).expect("a certificate")
     }

@@ -6,7 +6,7 @@ use super::{Calls, Finder, INDEPENDENT};
 use crate::independent::book::Book;
 use crate::independent::calls::{find_all, find_all_breaks};
 use purlquartz::certificate::Certificate;
-use purlquartz::{Refusal, Rest, Verdict};
+use purlquartz::{JoinRefusal, Joined, Refusal, Rest, Verdict};
 use std::fmt::Debug;
 
 /// What both answered, in a word: a refusal's number, or the name of the case. Or how they differ.
@@ -14,22 +14,25 @@ pub type Outcome = Result<String, String>;
 /// The same for all pairs of a book.
 pub type Outcomes = Result<Vec<String>, String>;
 
-fn word<A: Debug>(answer: &Result<A, Refusal>) -> String {
+fn word<A: Debug, E: Copy + Into<Refusal>>(answer: &Result<A, E>) -> String {
     match answer {
-        Err(refusal) => refusal.number.to_string(),
-        Ok(answer) => {
-            let whole = format!("{answer:?}");
-            let name = whole.split(|sign: char| !sign.is_alphabetic()).next();
-            name.unwrap_or_default().to_string()
-        }
+        Err(refusal) => (*refusal).into().number.to_string(),
+        Ok(answer) => name(answer),
     }
 }
 
-fn same<A: Debug + PartialEq, M: Memory>(
-    call: &str,
-    subject: (Result<A, Refusal>, M),
-    expected: (Result<A, Refusal>, M),
-) -> Outcome {
+fn name(answer: &impl Debug) -> String {
+    let whole = format!("{answer:?}");
+    let name = whole.split(|sign: char| !sign.is_alphabetic()).next();
+    name.unwrap_or_default().to_string()
+}
+
+fn same<A, E, M>(call: &str, subject: (Result<A, E>, M), expected: (Result<A, E>, M)) -> Outcome
+where
+    A: Debug + PartialEq,
+    E: Copy + Debug + PartialEq + Into<Refusal>,
+    M: Memory,
+{
     if subject.0 != expected.0 {
         return Err(format!("{call}: {:?}, not {:?}", subject.0, expected.0));
     }
@@ -241,7 +244,7 @@ pub fn next_entry(subject: &Calls, list: &[u8], rest: Rest) -> Outcome {
     let made = |calls: &Calls| {
         let list = Lent::holding(list);
         let answer = (calls.next_entry)(list.part(), rest);
-        (Ok(answer), list)
+        (Ok::<_, Refusal>(answer), list)
     };
     same("next_entry", made(subject), made(&INDEPENDENT))
 }
@@ -271,6 +274,25 @@ pub fn sort_list(subject: &Calls, cells: &[u16], list: &[u8], lent: &Lent<u8>) -
         (answer, ((cells, list), lent))
     };
     same("sort_list", made(subject), made(&INDEPENDENT))
+}
+
+/// The word of a fault, or of a list's refusal, begins with whose it is.
+pub fn join_lists(subject: &Calls, cells: &[u16], lists: [&[u8]; 2], lent: &Lent<u8>) -> Outcome {
+    let made = |calls: &Calls| {
+        let (cells, mut lent) = (Lent::holding(cells), lent.clone());
+        let [first, second] = lists.map(Lent::holding);
+        let parts = (first.part(), second.part(), lent.part_mut());
+        let answer = (calls.join_lists)(cells.part(), parts.0, parts.1, parts.2);
+        (answer, ((cells, lent), (first, second)))
+    };
+    let expected = made(&INDEPENDENT);
+    let answer = expected.0;
+    let outcome = same("join_lists", made(subject), expected)?;
+    Ok(match answer {
+        Ok(Joined::Fault { list, judgement }) => format!("{list:?}{}", name(&judgement)),
+        Err(JoinRefusal { list, .. }) => list.as_ref().map(name).unwrap_or_default() + &outcome,
+        Ok(Joined::List(_)) => outcome,
+    })
 }
 
 /// The word of a fault is the name of its condition.

@@ -3,6 +3,7 @@
 
 pub mod compare;
 pub mod lent;
+pub mod lists;
 
 use crate::independent::calls;
 use purlquartz::*;
@@ -12,6 +13,8 @@ type Refused<T> = Result<T, Refusal>;
 pub type Converter = fn(&[u16], &mut [u16]) -> Refused<usize>;
 /// Takes a book, a state and a lookahead, work cells and a sentence buffer.
 pub type Finder<A> = fn(&[u16], u16, u16, &mut [u16], &mut [u8]) -> Refused<A>;
+/// Takes a book, two lists and bytes to write to.
+pub type Joiner = fn(&[u16], &[u8], &[u8], &mut [u8]) -> Result<Joined, JoinRefusal>;
 /// Takes a book, the two rows of a certificate and its sentences.
 pub type Checker = fn(&[u16], &[u16], &[u16], &[u8]) -> Refused<Verdict>;
 
@@ -33,6 +36,7 @@ pub struct Calls {
     pub next_entry: fn(&[u8], Rest) -> Option<(Entry, Rest)>,
     pub judge: fn(&[u16], &[u8], &mut [u16], &mut [u16]) -> Refused<Judgement>,
     pub sort_list: fn(&[u16], &[u8], &mut [u8]) -> Refused<Sorted>,
+    pub join_lists: Joiner,
     pub check_certificate: Checker,
 }
 
@@ -90,6 +94,7 @@ pub const LIBRARY: Calls = Calls {
     next_entry,
     judge,
     sort_list,
+    join_lists,
     check_certificate,
 };
 
@@ -110,5 +115,6 @@ pub const INDEPENDENT: Calls = Calls {
     next_entry: calls::next_entry,
     judge: calls::judge,
     sort_list: calls::sort_list,
+    join_lists: calls::join_lists,
     check_certificate: calls::check_certificate,
 };

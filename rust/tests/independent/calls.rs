@@ -234,11 +234,11 @@ pub fn judge(
     Ok(judge_entries(&book, bytes, &list.entries))
 }
 
-/// The state that an entry fails in, or the ending that makes it wrong.
-fn failing_state(book: &Book, bytes: &[u8], entry: &Entry) -> Result<usize, Ending> {
-    let (ending, _) = machine::run(book, entry.symbols(bytes), entry.lookahead);
+/// The state that a sentence fails in, or the ending that makes its entry wrong.
+pub fn failing_state(book: &Book, sentence: &[u8], lookahead: u16) -> Result<usize, Ending> {
+    let (ending, _) = machine::run(book, sentence, lookahead);
     match ending {
-        Ending::Error(stop) | Ending::Broken(stop) if usize::from(stop.taken) == entry.length => {
+        Ending::Error(stop) | Ending::Broken(stop) if usize::from(stop.taken) == sentence.len() => {
             Ok(stop.state.into())
         }
         ending => Err(ending),
@@ -246,23 +246,27 @@ fn failing_state(book: &Book, bytes: &[u8], entry: &Entry) -> Result<usize, Endi
 }
 
 fn judge_entries(book: &Book, bytes: &[u8], entries: &[Entry]) -> Judgement {
-    let mut covered = vec![false; book.states()];
-    let mut before = 0;
-    for (entry, read) in entries.iter().enumerate() {
-        let state = match failing_state(book, bytes, read) {
-            Ok(state) => state,
-            Err(ending) => return Judgement::Wrong { entry, ending },
-        };
-        if state < before {
-            return Judgement::OutOfOrder { entry };
-        }
-        if covered[state] {
-            return Judgement::Repeat { entry };
-        }
-        covered[state] = true;
-        before = state;
+    match states_in_order(book, bytes, entries) {
+        Ok(states) => judge_cover(book, &states),
+        Err(fault) => fault,
     }
-    judge_cover(book, &covered)
+}
+
+/// The states that the entries fail in, or the first fault.
+fn states_in_order(book: &Book, bytes: &[u8], entries: &[Entry]) -> Result<Vec<usize>, Judgement> {
+    let mut states = Vec::new();
+    for (entry, read) in entries.iter().enumerate() {
+        let state = failing_state(book, read.symbols(bytes), read.lookahead)
+            .map_err(|ending| Judgement::Wrong { entry, ending })?;
+        if states.last().is_some_and(|&before| state < before) {
+            return Err(Judgement::OutOfOrder { entry });
+        }
+        if states.contains(&state) {
+            return Err(Judgement::Repeat { entry });
+        }
+        states.push(state);
+    }
+    Ok(states)
 }
 
 pub fn sort_list(cells: &[u16], bytes: &[u8], lent: &mut [u8]) -> Result<Sorted, Refusal> {
@@ -270,7 +274,7 @@ pub fn sort_list(cells: &[u16], bytes: &[u8], lent: &mut [u8]) -> Result<Sorted,
     let list = list::decode(bytes, book.sizes.terminals)?;
     let mut by_state = BTreeMap::new();
     for (entry, read) in list.entries.iter().enumerate() {
-        match failing_state(&book, bytes, read) {
+        match failing_state(&book, read.symbols(bytes), read.lookahead) {
             Err(ending) => return Ok(Sorted::Wrong { entry, ending }),
             Ok(state) if by_state.contains_key(&state) => return Ok(Sorted::Repeat { entry }),
             Ok(state) => by_state.insert(state, (read.symbols(bytes), read.lookahead)),
@@ -280,8 +284,40 @@ pub fn sort_list(cells: &[u16], bytes: &[u8], lent: &mut [u8]) -> Result<Sorted,
     hand_over(&sorted, lent).map(Sorted::List)
 }
 
-/// The lowest state with a failing pair, long ones too, that is not covered.
-fn judge_cover(book: &Book, covered: &[bool]) -> Judgement {
+/// The lines of both lists by state, and for one state by length. The sort leaves equals in their
+/// order, so that the first list's comes first, and the first of each state is taken.
+pub fn join_lists(
+    cells: &[u16],
+    first: &[u8],
+    second: &[u8],
+    lent: &mut [u8],
+) -> Result<Joined, JoinRefusal> {
+    let of = |list| move |refusal| JoinRefusal { list, refusal };
+    let book = Book::from_cells(cells).map_err(of(None))?;
+    let decode = |list, bytes| {
+        let read = list::decode(bytes, book.sizes.terminals).map_err(of(Some(list)))?;
+        Ok((list, bytes, read.entries))
+    };
+    let lists = [decode(Which::First, first)?, decode(Which::Second, second)?];
+    let mut lines = Vec::new();
+    for (list, bytes, entries) in lists {
+        match states_in_order(&book, bytes, &entries) {
+            Err(judgement) => return Ok(Joined::Fault { list, judgement }),
+            Ok(states) => {
+                let line = |entry: Entry| (entry.symbols(bytes), entry.lookahead);
+                lines.extend(states.into_iter().zip(entries.into_iter().map(line)));
+            }
+        }
+    }
+    lines.sort_by_key(|(state, (symbols, _))| (*state, symbols.len()));
+    lines.dedup_by_key(|(state, _)| *state);
+    let joined = list::encode_list(lines.into_iter().map(|(_, line)| line));
+    let count = hand_over(&joined, lent).map_err(of(None))?;
+    Ok(Joined::List(count))
+}
+
+/// The lowest state with a failing pair, long ones too, that is not among the states.
+pub fn judge_cover(book: &Book, covered: &[usize]) -> Judgement {
     let map = map_of(book);
     let has_error = |state: usize| {
         (0..book.terminals()).any(|terminal| {
@@ -290,7 +326,7 @@ fn judge_cover(book: &Book, covered: &[bool]) -> Judgement {
         })
     };
     let failing = |state: usize| has_error(state) || has_break(book, state);
-    match (0..book.states()).find(|&state| !covered[state] && failing(state)) {
+    match (0..book.states()).find(|state| !covered.contains(state) && failing(*state)) {
         Some(state) => Judgement::Uncovered {
             state: state as u16,
         },

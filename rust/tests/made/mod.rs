@@ -1,9 +1,10 @@
-//! Books made by hand, and of grammars.
+//! Books and lists made by hand, and books of grammars.
 #![allow(dead_code)] // no single test uses all of it
 
 use crate::grammar::Grammar;
 use crate::independent::book::{Action, Book, Production};
 use crate::lalr;
+use crate::random::lists::{line, Line};
 use purlquartz::Sizes;
 
 /// The book of a grammar without conflicts.
@@ -27,6 +28,48 @@ pub fn hand_book(
     cells.extend(actions);
     cells.extend(gotos);
     Book::from_cells(&cells).expect("a good book")
+}
+
+/// The specification's list for Bracket: one entry for each state, by rising state.
+pub fn bracket_lines() -> Vec<Line> {
+    let sentences: [&[u8]; 6] = [&[], &[1], &[2], &[1], &[2, 1], &[2, 1, 3]];
+    let lines = sentences.into_iter().zip([0, 1, 0, 3, 0, 1]);
+    lines.map(|(symbols, next)| line(symbols, next)).collect()
+}
+
+/// 128 states, each 37 after the one before it, that follow one another by 1, the last by itself;
+/// by 2 each is followed by itself. With the end mark next the even states fail in error, and the
+/// odd ones break a reduction.
+pub fn ladder() -> Book {
+    let mut actions = vec![0; 128 * 3];
+    for step in 0..128 {
+        let state = rung(step);
+        let next = rung((step + 1).min(127));
+        let failing = 3 * (state as u16 % 2);
+        let row = [failing, 2 + 2 * next as u16, 2 + 2 * state as u16];
+        actions[3 * state..][..3].copy_from_slice(&row);
+    }
+    hand_book([3, 1, 128, 1], &[[0, 1]], &actions, &[0; 128])
+}
+
+/// The state of the ladder after so many times 1.
+fn rung(step: usize) -> usize {
+    37 * step % 128
+}
+
+/// For each state of the ladder the shortest line that fails there, by rising state.
+pub fn ladder_lines() -> Vec<Line> {
+    let mut lines: Vec<Line> = (0..128).map(|step| (vec![1; step], 0)).collect();
+    lines.sort_by_key(|(sentence, _)| rung(sentence.len()));
+    lines
+}
+
+/// The lines made longer by 2, which leaves a state of the ladder as it is.
+pub fn lengthened(mut lines: Vec<Line>, length: usize) -> Vec<Line> {
+    for (sentence, _) in &mut lines {
+        sentence.resize(length, 2);
+    }
+    lines
 }
 
 /// The book of a grammar of x and y whose start is a nonterminal, then y. Each nonterminal is the

@@ -3,13 +3,17 @@
 use super::Random;
 use crate::independent::book::{Action, Book};
 use crate::independent::breaks::find_breaks;
-use crate::independent::calls::find_all;
+use crate::independent::calls::{failing_state, find_all};
 use crate::independent::list;
 use crate::independent::machine::run;
 use purlquartz::{Break, Ending, Found};
 
 /// A sentence and its lookahead.
 pub type Line = (Vec<u8>, u16);
+
+pub fn line(sentence: &[u8], lookahead: u16) -> Line {
+    (sentence.to_vec(), lookahead)
+}
 
 /// Any symbols.
 pub fn sentence(random: &mut Random, terminals: u16, length: usize) -> Vec<u8> {
@@ -41,31 +45,64 @@ pub fn taken_sentence(random: &mut Random, book: &Book, length: usize) -> Vec<u8
 
 /// For each state with a failing pair one sentence that fails there, by rising state.
 pub fn covering(random: &mut Random, book: &Book) -> Vec<Line> {
-    one_a_state(random, book, |state, found| {
-        [errors(book, state, found), breaks(book, state)].concat()
-    })
+    one_a_state(random, &found_lines(book))
 }
 
 /// The same for each state that fails in error.
 pub fn covering_errors(random: &mut Random, book: &Book) -> Vec<Line> {
-    one_a_state(random, book, |state, found| errors(book, state, found))
+    one_a_state(random, &error_lines(book))
 }
 
-/// For each state one of its lines, if there are any, which may be made of what the finder says.
-fn one_a_state(
-    random: &mut Random,
-    book: &Book,
-    lines_of: impl Fn(usize, &[(Found, Vec<u8>)]) -> Vec<Line>,
-) -> Vec<Line> {
+/// For each state one of its lines, if there are any.
+fn one_a_state(random: &mut Random, states: &[Vec<Line>]) -> Vec<Line> {
+    let there = states.iter().filter(|lines| !lines.is_empty());
+    there
+        .map(|lines| lines[random.below(lines.len())].clone())
+        .collect()
+}
+
+/// For each state the found sentences that fail there.
+fn found_lines(book: &Book) -> Vec<Vec<Line>> {
+    let errors = error_lines(book).into_iter().enumerate();
+    let lines = errors.map(|(state, errors)| [errors, breaks(book, state)].concat());
+    lines.collect()
+}
+
+/// The same of those that fail in error.
+fn error_lines(book: &Book) -> Vec<Vec<Line>> {
     let answers = find_all(book);
-    let mut lines = Vec::new();
-    for (state, found) in answers.chunks(book.terminals()).enumerate() {
-        let mut failing = lines_of(state, found);
-        if !failing.is_empty() {
-            lines.push(failing.swap_remove(random.below(failing.len())));
+    let states = answers.chunks(book.terminals()).enumerate();
+    states
+        .map(|(state, found)| errors(book, state, found))
+        .collect()
+}
+
+/// For each state sentences that fail there: the found ones, and others that are met, most of them
+/// longer.
+pub fn failing_lines(random: &mut Random, book: &Book) -> Vec<Vec<Line>> {
+    let mut states = found_lines(book);
+    for _ in 0..4 * book.states() {
+        let length = random.below(12);
+        let sentence = taken_sentence(random, book, length);
+        let lookahead = random.below(book.terminals()) as u16;
+        if let Ok(state) = failing_state(book, &sentence, lookahead) {
+            states[state].push((sentence, lookahead));
         }
     }
-    lines
+    states
+}
+
+/// Two lists of lines for some of the states each; as a rule as good as the lines are.
+pub fn two_lists(random: &mut Random, book: &Book, failing: &[Vec<Line>]) -> [Vec<Line>; 2] {
+    [(); 2].map(|()| {
+        let mut lines = one_a_state(random, failing);
+        let share = random.pick(&[50, 80, 100]);
+        lines.retain(|_| random.percent(share));
+        match random.percent(30) {
+            true => varied(random, book, lines),
+            false => lines,
+        }
+    })
 }
 
 /// The found sentences of a state that fail in error, one for each lookahead.
@@ -128,6 +165,12 @@ fn disordered(random: &mut Random, lines: &mut [Line]) {
         2 if !lines.is_empty() => lines.swap(random.below(lines.len()), random.below(lines.len())),
         _ => {}
     }
+}
+
+/// The list of some of the lines, in this order.
+pub fn list_of(lines: &[Line], order: &[usize]) -> Vec<u8> {
+    let lines: Vec<Line> = order.iter().map(|&at| lines[at].clone()).collect();
+    encode_list(&lines)
 }
 
 pub fn encode_list(lines: &[Line]) -> Vec<u8> {
