@@ -37,8 +37,8 @@ use Rattle.sorting.specs.PutStatesLaws.{numbers-append, place-span}
 use Rattle.sorting.specs.Sorting.{statewise, fitted}
 use Rattle.sorting.specs.StatewiseLaws.{statewise-last}
 use Rattle.joining.specs.Joining.{shorter, joined, joinedBytes, joinedIn, joins}
-use Rattle.joining.specs.Pieces.{symbolsAt, isShorter, pieceAt, entryCount, piecesTo, countTo}
-use Rattle.joining.specs.PiecesLaws.{symbols-read, second-none, first-none, both-compared, second-taken, first-taken, count-first, count-second, count-none}
+use Rattle.pieces.specs.Pieces.{symbolsAt, isShorter, pieceAt, entryCount, piecesTo, countTo}
+use Rattle.pieces.specs.PiecesLaws.{symbols-read, second-none, first-none, both-compared, second-taken, first-taken, count-first, count-second, count-none}
 use Rattle.joining.specs.declared.Joined.{Joined}
 use Rattle.joining.specs.declared.Joined.the-variants.{Count, Fault, Refused, ListRefused}
 use Rattle.joining.specs.declared.Which.the-variants.{First, Second}

@@ -1,4 +1,2 @@
 pub mod Joining
-pub mod Pieces
-pub mod PiecesLaws
 pub mod JoinLaws

@@ -14,13 +14,10 @@ ghost use Rattle.course.specs.declared.Faults.the-variants.{None};
 ghost use Rattle.sorting.specs.Sorting.{fitted};
 ghost use Rattle.joining.specs.JoinLaws.{BothAccepted};
 ghost use Rattle.joining.specs.Joining.{joinedIn, joins};
-ghost use Rattle.joining.specs.Pieces.{countTo, piecesTo};
+ghost use Rattle.pieces.specs.Pieces.{countTo, piecesTo};
 ghost use Rattle.joining.specs.declared.Joined.the-variants.{Count, Refused};
-use crate::Fit;
 use crate::Joined;
 use crate::Which;
-use crate::pieces::measure;
-use crate::pieces::put_pieces;
 use book::Checked;
 use book::Sizes;
 use course::Faults;
@@ -35,6 +32,9 @@ use machine::DEPTH;
 use number::Refusal;
 use number::width;
 use number::write;
+use pieces::Fit;
+use pieces::measure;
+use pieces::put_pieces;
 
 fn too_short() -> Joined
     ensures { λ r. ⌜ r ≡ Refused (record { number = 12; place = 0 }) ⌝ }

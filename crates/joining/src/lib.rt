@@ -1,6 +1,5 @@
 // Two lists of one book joined.
 mod join;
-mod pieces;
 
 use course::Judgement;
 pub use join::join_lists;
@@ -19,10 +18,4 @@ pub enum Joined {
     Fault(Which, Judgement),
     Refused(Refusal),
     ListRefused(Which, Refusal),
-}
-
-// What is left of a room, and how many entries took the rest; or they have more bytes than the room.
-enum Fit {
-    Left(usize, u16),
-    Short,
 }

@@ -7,7 +7,7 @@ use lib.ListN.{length}
 use lib.Seq.{length-sets}
 use Rattle.number.specs.Number.{written}
 use Rattle.joining.specs.JoinLaws.{pieces-short, count-short, list-put}
-use Rattle.joining.specs.Pieces.{piecesTo, countTo}
+use Rattle.pieces.specs.Pieces.{piecesTo, countTo}
 use borrow.Author.Needs.{needs}
 use Rattle.joining.proofs.join.put_list.Statement.{statement}
 use Rattle.joining.proofs.join.put_list.Tie as tie

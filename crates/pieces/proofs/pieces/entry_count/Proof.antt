@@ -1,7 +1,7 @@
--- `joining::pieces::entry_count` meets its contract: by the places that are 0. Assumes nothing.
-use Rattle.joining.specs.PiecesLaws.{count-first, count-second, count-none}
-use Rattle.joining.proofs.pieces.entry_count.Statement.{statement}
-use Rattle.joining.proofs.pieces.entry_count.Tie as tie
+-- `pieces::pieces::entry_count` meets its contract: by the places that are 0. Assumes nothing.
+use Rattle.pieces.specs.PiecesLaws.{count-first, count-second, count-none}
+use Rattle.pieces.proofs.pieces.entry_count.Statement.{statement}
+use Rattle.pieces.proofs.pieces.entry_count.Tie as tie
 
 returns : tie.Need-returns
 returns c = count-first _ _ (c .if1 .taken)

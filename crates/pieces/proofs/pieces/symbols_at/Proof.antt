@@ -1,9 +1,9 @@
--- `joining::pieces::symbols_at` meets its contract: the number that stands there. Assumes nothing.
+-- `pieces::pieces::symbols_at` meets its contract: the number that stands there. Assumes nothing.
 use mathlib.Core.Path.{sym, _∙_}
-use Rattle.joining.specs.PiecesLaws.{symbols-none, symbols-read}
+use Rattle.pieces.specs.PiecesLaws.{symbols-none, symbols-read}
 use borrow.Author.Needs.{needs}
-use Rattle.joining.proofs.pieces.symbols_at.Statement.{statement}
-use Rattle.joining.proofs.pieces.symbols_at.Tie as tie
+use Rattle.pieces.proofs.pieces.symbols_at.Statement.{statement}
+use Rattle.pieces.proofs.pieces.symbols_at.Tie as tie
 
 returns : tie.Need-returns
 returns c = symbols-none _ _ (sym (c .before .before .read .ensures) ∙ c .enum-told .given .1)

@@ -1,13 +1,13 @@
--- `joining::pieces::measure` meets its contract: state by state, what is left of the room. Assumes nothing.
+-- `pieces::pieces::measure` meets its contract: state by state, what is left of the room. Assumes nothing.
 use mathlib.Core.Path.{_≡_, refl, sym}
 use native.Mathlib.Omega.{arith}
 use Prim.Native.Nat.{_+_, _-_, _≤_}
 use lib.ListN.{length, getD}
-use Rattle.joining.specs.Pieces.{piecesTo, countTo}
-use Rattle.joining.specs.PiecesLaws.{pieces-none, pieces-length, pieces-part, count-zero, count-more, count-few}
+use Rattle.pieces.specs.Pieces.{piecesTo, countTo}
+use Rattle.pieces.specs.PiecesLaws.{pieces-none, pieces-length, pieces-part, count-zero, count-more, count-few}
 use borrow.Author.Needs.{needs}
-use Rattle.joining.proofs.pieces.measure.Statement.{statement}
-use Rattle.joining.proofs.pieces.measure.Tie as tie
+use Rattle.pieces.proofs.pieces.measure.Statement.{statement}
+use Rattle.pieces.proofs.pieces.measure.Tie as tie
 
 abbrev Inv-loop : tie.InvT-loop
 Inv-loop first places second others states room left₀ count₀ s₀ left count s =

@@ -9,8 +9,8 @@ use Rattle.number.specs.Number.{numberAt}
 use Rattle.number.specs.declared.Number.{Number}
 use Rattle.number.specs.declared.Number.the-variants.{Value, Refused}
 use Rattle.items.specs.SpanLaws.{spanAt}
-use Rattle.joining.specs.declared.Fit.{Fit}
-use Rattle.joining.specs.declared.Fit.the-variants.{Left, Short}
+use Rattle.pieces.specs.declared.Fit.{Fit}
+use Rattle.pieces.specs.declared.Fit.the-variants.{Left, Short}
 
 -- how many symbols the entry at a place has: the number that stands there
 abbrev pub countOf : Number → ℕ

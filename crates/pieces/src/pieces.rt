@@ -4,7 +4,7 @@ ghost use Prim.Native.Nat.{_+_, _≤_};
 ghost use lib.ListN.{length};
 ghost use lib.Seq.{sets};
 ghost use Rattle.items.specs.SpanLaws.{spanAt};
-ghost use Rattle.joining.specs.Pieces.{symbolsAt, isShorter, pieceAt, entryCount, piecesTo, Measured};
+ghost use Rattle.pieces.specs.Pieces.{symbolsAt, isShorter, pieceAt, entryCount, piecesTo, Measured};
 use crate::Fit;
 use lists::Step;
 use lists::entry_at;

@@ -1,12 +1,12 @@
--- `joining::pieces::put_piece` meets its contract: the entry that is taken is put. Assumes nothing.
+-- `pieces::pieces::put_piece` meets its contract: the entry that is taken is put. Assumes nothing.
 use denote.Ref.{now}
 use mathlib.Core.Path.{_≡_, sym, _∙_}
 use Rattle.items.specs.SpanLaws.{spanAt}
-use Rattle.joining.specs.Pieces.{pieceAt}
-use Rattle.joining.specs.PiecesLaws.{second-taken, first-taken}
+use Rattle.pieces.specs.Pieces.{pieceAt}
+use Rattle.pieces.specs.PiecesLaws.{second-taken, first-taken}
 use borrow.Author.Needs.{needs}
-use Rattle.joining.proofs.pieces.put_piece.Statement.{statement}
-use Rattle.joining.proofs.pieces.put_piece.Tie as tie
+use Rattle.pieces.proofs.pieces.put_piece.Statement.{statement}
+use Rattle.pieces.proofs.pieces.put_piece.Tie as tie
 
 second : (c : tie.Then1) → let a = c .before .before .before .before .before .args in pieceAt (now (a .first)) (a .p) (now (a .second)) (a .q) ≡ spanAt (now (a .second)) (a .q)
 second c = second-taken _ _ _ _ (sym (c .if1 .taken) ∙ c .before .second-is-shorter .ensures)

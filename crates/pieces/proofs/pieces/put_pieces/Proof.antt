@@ -1,11 +1,11 @@
--- `joining::pieces::put_pieces` meets its contract: state by state. Assumes nothing.
+-- `pieces::pieces::put_pieces` meets its contract: state by state. Assumes nothing.
 use mathlib.Core.Path.{_≡_}
 use native.Mathlib.Omega.{arith}
 use Prim.Native.Nat.{_-_, _≤_}
-use Rattle.joining.specs.PiecesLaws.{PiecesPut, pieces-put-none, pieces-put-length, pieces-put-fits, pieces-put-more}
+use Rattle.pieces.specs.PiecesLaws.{PiecesPut, pieces-put-none, pieces-put-length, pieces-put-fits, pieces-put-more}
 use borrow.Author.Needs.{needs}
-use Rattle.joining.proofs.pieces.put_pieces.Statement.{statement}
-use Rattle.joining.proofs.pieces.put_pieces.Tie as tie
+use Rattle.pieces.proofs.pieces.put_pieces.Statement.{statement}
+use Rattle.pieces.proofs.pieces.put_pieces.Tie as tie
 
 abbrev Inv-loop : tie.InvT-loop
 Inv-loop first places second others states out₀ start at₀ s₀ out at s = (s ≤ states) × PiecesPut first places second others start out₀ s at out

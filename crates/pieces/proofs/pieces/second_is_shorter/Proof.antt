@@ -1,9 +1,9 @@
--- `joining::pieces::second_is_shorter` meets its contract: a list without an entry first, then the symbols. Assumes nothing.
+-- `pieces::pieces::second_is_shorter` meets its contract: a list without an entry first, then the symbols. Assumes nothing.
 use mathlib.Core.Path.{_∙_}
-use Rattle.joining.specs.PiecesLaws.{second-none, first-none, both-compared}
+use Rattle.pieces.specs.PiecesLaws.{second-none, first-none, both-compared}
 use borrow.Author.Needs.{needs}
-use Rattle.joining.proofs.pieces.second_is_shorter.Statement.{statement}
-use Rattle.joining.proofs.pieces.second_is_shorter.Tie as tie
+use Rattle.pieces.proofs.pieces.second_is_shorter.Statement.{statement}
+use Rattle.pieces.proofs.pieces.second_is_shorter.Tie as tie
 
 returns : tie.Need-returns
 returns c = second-none _ _ _ _ (c .if1 .taken)

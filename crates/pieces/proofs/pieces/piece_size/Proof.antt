@@ -1,9 +1,9 @@
--- `joining::pieces::piece_size` meets its contract: that of the entry that is taken. Assumes nothing.
+-- `pieces::pieces::piece_size` meets its contract: that of the entry that is taken. Assumes nothing.
 use mathlib.Core.Path.{sym, _∙_}
-use Rattle.joining.specs.PiecesLaws.{second-taken, first-taken}
+use Rattle.pieces.specs.PiecesLaws.{second-taken, first-taken}
 use borrow.Author.Needs.{needs}
-use Rattle.joining.proofs.pieces.piece_size.Statement.{statement}
-use Rattle.joining.proofs.pieces.piece_size.Tie as tie
+use Rattle.pieces.proofs.pieces.piece_size.Statement.{statement}
+use Rattle.pieces.proofs.pieces.piece_size.Tie as tie
 
 returns : tie.Need-returns
 returns c = rw (second-taken _ _ _ _ (sym (c .before .if1 .taken) ∙ c .before .before .second-is-shorter .ensures)) (c .entry-size .ensures)

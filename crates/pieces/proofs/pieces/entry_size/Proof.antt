@@ -1,12 +1,12 @@
--- `joining::pieces::entry_size` meets its contract: by what reading the entry gave. Assumes nothing.
+-- `pieces::pieces::entry_size` meets its contract: by what reading the entry gave. Assumes nothing.
 use denote.Ref.{now}
 use mathlib.Core.List.{[]}
 use mathlib.Core.Path.{_≡_, sym, _∙_}
 use Rattle.items.specs.SpanLaws.{spanAt, span-none}
 use Rattle.sorting.specs.PutEntryLaws.{SpanFound, span-read, span-refused}
 use borrow.Author.Needs.{needs}
-use Rattle.joining.proofs.pieces.entry_size.Statement.{statement}
-use Rattle.joining.proofs.pieces.entry_size.Tie as tie
+use Rattle.pieces.proofs.pieces.entry_size.Statement.{statement}
+use Rattle.pieces.proofs.pieces.entry_size.Tie as tie
 
 returns : tie.Need-returns
 returns c = rw (c .if1 .taken, span-none)

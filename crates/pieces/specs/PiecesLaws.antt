@@ -16,7 +16,7 @@ use Rattle.number.specs.declared.Number.the-variants.{Value, Refused}
 use Rattle.number.specs.declared.Refusal.{Refusal}
 use Rattle.items.specs.SpanLaws.{spanAt}
 use Rattle.sorting.specs.PutLaws.{put-more}
-use Rattle.joining.specs.Pieces.{symbolsAt, isShorter, pieceAt, entryCount, piecesTo, countTo}
+use Rattle.pieces.specs.Pieces.{symbolsAt, isShorter, pieceAt, entryCount, piecesTo, countTo}
 
 -- ---- the symbols of an entry
 module _ (bytes : List ℕ) (place : ℕ) where
