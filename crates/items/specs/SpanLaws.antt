@@ -1,6 +1,6 @@
 -- The bytes of an entry where it stands in a list, and laws of them. Assumes nothing.
 use mathlib.Core.Bool.{cond}
-use mathlib.Core.List.{List, [], _∷_, _++_, append-assoc}
+use mathlib.Core.List.{List, []}
 use mathlib.Core.Path.{_≡_, refl, _∙_, ap}
 use Prim.Native.Nat.{ℕ, _-_, _≤_, _<_}
 use native.Mathlib.Omega.{arith}
@@ -27,12 +27,6 @@ spanOf bytes place (Found e next) = take (next .at - place) (drop place bytes)
 unfoldable pub spanAt : List ℕ → ℕ → List ℕ
 spanAt bytes place = cond (eqb place 0) [] (spanOf bytes place (entryAt 32 bytes place))
 
--- those at several places, one after another
-unfoldable pub spansAt : List ℕ → List ℕ → List ℕ
-spansAt bytes [] = []
-spansAt bytes (place ∷ places) = spanAt bytes place ++ spansAt bytes places
-
--- ---- of one place
 pub span-none : (bytes : List ℕ) → spanAt bytes 0 ≡ []
 unfolding spanAt
 span-none bytes = refl
@@ -60,9 +54,3 @@ span-item bytes place {e} {next} b few some f =
     let count : length out ≡ next .at - place =
     omega (arith, ap length whole, length-append out (drop (next .at) bytes), length-drop place bytes, length-drop (next .at) bytes, entry-within bytes place few f) in
     span-found bytes place few some f ∙ rw whole (take-at out (drop (next .at) bytes) (next .at - place) count)
-
--- ---- of several
-pub spans-append : (bytes ps qs : List ℕ) → spansAt bytes (ps ++ qs) ≡ spansAt bytes ps ++ spansAt bytes qs
-unfolding spansAt
-spans-append bytes [] qs = refl
-spans-append bytes (p ∷ ps) qs = rw append-assoc (ap (λ (l : List ℕ). spanAt bytes p ++ l) (spans-append bytes ps qs))

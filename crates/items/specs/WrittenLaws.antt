@@ -41,6 +41,16 @@ numbers-more x xs = bytes-append (itemNumbers x) (numbersOf xs)
 pub numbers-length : (x : Item) (xs : List Item) → length (bytesOf (numbersOf (x ∷ xs))) ≡ length (bytesOf (itemNumbers x)) + length (bytesOf (numbersOf xs))
 numbers-length x xs = ap length (numbers-more x xs) ∙ length-append (bytesOf (itemNumbers x)) (bytesOf (numbersOf xs))
 
+-- the bytes of entries after one another
+pub numbers-append : (xs ys : List Item) → bytesOf (numbersOf (xs ++ ys)) ≡ bytesOf (numbersOf xs) ++ bytesOf (numbersOf ys)
+unfolding numbersOf
+numbers-append [] ys = refl
+numbers-append (x ∷ xs) ys =
+    numbers-more x (xs ++ ys)
+    ∙ ap (λ (l : List ℕ). bytesOf (itemNumbers x) ++ l) (numbers-append xs ys)
+    ∙ sym (append-assoc (bytesOf (itemNumbers x)) (bytesOf (numbersOf xs)) (bytesOf (numbersOf ys)))
+    ∙ ap (λ (l : List ℕ). l ++ bytesOf (numbersOf ys)) (sym (numbers-more x xs))
+
 -- ---- the count of a list that was read
 closing-count : (first count end : ℕ) (n : Number) (rest : Rest) → listClosing first count end n ≡ Entries rest → count ≡ rest .left
 closing-count first count end (Refused r) rest e = absurd (let z : _≡_ {A = ℕ} 0 1 = cc in omega arith)

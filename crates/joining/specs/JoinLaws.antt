@@ -6,7 +6,7 @@ use Prim.Native.Nat.{ℕ, zero, suc, _+_, _≤_, _<_}
 use native.Mathlib.Nat.{zero-add}
 use native.Mathlib.Omega.{arith}
 use lib.Dec.{ltb}
-use lib.ListN.{length, length-append}
+use lib.ListN.{length, getD, length-append}
 use lib.Seq.{sets}
 use Rattle.number.specs.Number.{written}
 use Rattle.number.specs.NumberLaws.{Bytes}
@@ -33,11 +33,12 @@ use Rattle.course.specs.declared.Faults.the-variants.{None, First as FirstFault
 use Rattle.course.specs.declared.Judgement.{Judgement}
 use Rattle.sorting.specs.FittedLaws.{fitted-short, fitted-put}
 use Rattle.sorting.specs.PutLaws.{put-both}
-use Rattle.sorting.specs.PutStatesLaws.{numbers-append, place-span}
+use Rattle.sorting.specs.PutStatesLaws.{place-span}
 use Rattle.sorting.specs.Sorting.{statewise, fitted}
 use Rattle.sorting.specs.StatewiseLaws.{statewise-last}
+use Rattle.sorting.specs.UpToLaws.{up-to-written}
 use Rattle.joining.specs.Joining.{shorter, joined, joinedBytes, joinedIn, joins}
-use Rattle.pieces.specs.Pieces.{symbolsAt, isShorter, pieceAt, entryCount, piecesTo, countTo}
+use Rattle.pieces.specs.Pieces.{symbolsAt, isShorter, pieceAt, entryCount, pieceOf, piecesTo, countTo}
 use Rattle.pieces.specs.PiecesLaws.{symbols-read, second-none, first-none, both-compared, second-taken, first-taken, count-first, count-second, count-none}
 use Rattle.joining.specs.declared.Joined.{Joined}
 use Rattle.joining.specs.declared.Joined.the-variants.{Count, Fault, Refused, ListRefused}
@@ -76,24 +77,21 @@ module _ {t : ℕ} (first second : List ℕ) (b : Bytes first) (c : Bytes second
       go false h = record { bytes = of-first p q h (one l f); count = sym (count-first p q (omega arith)) }
 
 -- ---- states in turn
--- what is taken for the first k states
-record AllTaken (first places second others : List ℕ) (k : ℕ) (xs : List Item) : Type 0 where
-  pub bytes : piecesTo first places second others k ≡ bytesOf (numbersOf xs)
-  pub count : countTo places others k ≡ length xs
+module _ {t : ℕ} (B : Tables) (first places second others : List ℕ) (xs ys : List Item) (b : Bytes first) (c : Bytes second) (few : t ≤ 32)
+    (x : Places B t first xs places) (y : Places B t second ys others) where
+  here : (s : ℕ) → s < 128 → Taken first (getD places s 0) second (getD others s 0) (shorter (inState B s xs) (inState B s ys))
+  here s h = taken first second b c few (x s h) (y s h)
 
-all-taken : {t : ℕ} (B : Tables) (first places second others : List ℕ) (xs ys : List Item) → Bytes first → Bytes second → t ≤ 32
-    → Places B t first xs places → Places B t second ys others → (k : ℕ) → k ≤ 128 → AllTaken first places second others k (joined B xs ys k 0)
-unfolding piecesTo countTo statewise numbersOf
-all-taken B first places second others xs ys b c few x y zero h = record { bytes = refl; count = refl }
-all-taken B first places second others xs ys b c few x y (suc k) h =
-    let before = all-taken B first places second others xs ys b c few x y k (omega arith) in
-    let here = taken first second b c few (x k (omega arith)) (y k (omega arith)) in
-    let more : List Item = shorter (inState B k xs) (inState B k ys) in
-    let last : joined B xs ys (suc k) 0 ≡ joined B xs ys k 0 ++ more = rw zero-add at (statewise-last (λ s. shorter (inState B s xs) (inState B s ys)) k 0) in
-    record {
-      bytes = rw (last, numbers-append (joined B xs ys k 0) more, before .bytes, here .bytes);
-      count = rw (last, length-append, before .count, here .count);
-    }
+  pieces-joined : (k : ℕ) → k ≤ 128 → piecesTo first places second others k ≡ bytesOf (numbersOf (joined B xs ys k 0))
+  pieces-joined k h = up-to-written (pieceOf first places second others) (λ s. shorter (inState B s xs) (inState B s ys)) k (λ s l. here s (omega arith) .bytes)
+
+  count-joined : (k : ℕ) → k ≤ 128 → countTo places others k ≡ length (joined B xs ys k 0)
+  unfolding countTo statewise
+  count-joined zero h = refl
+  count-joined (suc k) h =
+      let taking : ℕ → List Item = λ s. shorter (inState B s xs) (inState B s ys) in
+      let last : joined B xs ys (suc k) 0 ≡ joined B xs ys k 0 ++ taking k = rw zero-add at (statewise-last taking k 0) in
+      rw (last, length-append, count-joined k (omega arith), here k (omega arith) .count)
 
 -- ---- a list that is put: its count, then its entries, in a room of which so much is left by these
 module _ (count pieces lent : List ℕ) where
@@ -144,9 +142,11 @@ accepted-joined {d} {cells} {first} {second} {places} {others} h b c a e f lent 
     let ys : List Item = items second (a .two .es) in
     let p : Clean B (d .t) first xs (course true B 0 [] xs) places = rw (accepted-ahead (d .t) (a .one)) at e in
     let q : Clean B (d .t) second ys (course true B 0 [] ys) others = rw (accepted-ahead (d .t) (a .two)) at f in
-    let all = all-taken B first places second others xs ys b c (h .small .terminals) (p .kept) (q .kept) (d .s) (omega (arith, h .small .states)) in
-    let whole : written (countTo places others (d .s)) ++ piecesTo first places second others (d .s) ≡ joinedBytes B xs ys =
-    rw (all .bytes, all .count, ← states-are h) in
+    let few = h .small .terminals in
+    let most = h .small .states in
+    let pieces = pieces-joined B first places second others xs ys b c few (p .kept) (q .kept) (d .s) (omega arith) in
+    let count = count-joined B first places second others xs ys b c few (p .kept) (q .kept) (d .s) (omega arith) in
+    let whole : written (countTo places others (d .s)) ++ piecesTo first places second others (d .s) ≡ joinedBytes B xs ys = rw (pieces, count, ← states-are h) in
     rw (a .one .list, a .two .list, p .same, q .same) (rw whole at g)
 
 -- ---- what stops it before that, and what does not

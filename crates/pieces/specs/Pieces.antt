@@ -1,6 +1,6 @@
 -- The entries that are taken of two lists, by the places of the states, as bytes. Assumes nothing.
 use mathlib.Core.Bool.{Bool, true, false, cond}
-use mathlib.Core.List.{List, [], _++_}
+use mathlib.Core.List.{List}
 use mathlib.Core.Path.{_≡_}
 use Prim.Native.Nat.{ℕ, zero, suc, _+_, _<_}
 use lib.Dec.{eqb, ltb}
@@ -9,6 +9,7 @@ use Rattle.number.specs.Number.{numberAt}
 use Rattle.number.specs.declared.Number.{Number}
 use Rattle.number.specs.declared.Number.the-variants.{Value, Refused}
 use Rattle.items.specs.SpanLaws.{spanAt}
+use Rattle.sorting.specs.UpTo.{upTo}
 use Rattle.pieces.specs.declared.Fit.{Fit}
 use Rattle.pieces.specs.declared.Fit.the-variants.{Left, Short}
 
@@ -31,10 +32,12 @@ pieceAt first p second q = cond (isShorter first p second q) (spanAt second q) (
 unfoldable pub entryCount : ℕ → ℕ → ℕ
 entryCount p q = cond (eqb p 0) (cond (eqb q 0) 0 1) 1
 
--- those of the first states
-unfoldable pub piecesTo : List ℕ → List ℕ → List ℕ → List ℕ → ℕ → List ℕ
-piecesTo first places second others zero = []
-piecesTo first places second others (suc s) = piecesTo first places second others s ++ pieceAt first (getD places s 0) second (getD others s 0)
+-- those of a state, and of the first states
+abbrev pub pieceOf : List ℕ → List ℕ → List ℕ → List ℕ → ℕ → List ℕ
+pieceOf first places second others s = pieceAt first (getD places s 0) second (getD others s 0)
+
+abbrev pub piecesTo : List ℕ → List ℕ → List ℕ → List ℕ → ℕ → List ℕ
+piecesTo first places second others = upTo (pieceOf first places second others)
 
 unfoldable pub countTo : List ℕ → List ℕ → ℕ → ℕ
 countTo places others zero = 0

@@ -1,22 +1,20 @@
 -- Laws of the entries that are taken of two lists. Assumes nothing.
-use mathlib.Core.Bool.{Bool, true, false, cond}
-use mathlib.Core.List.{List, [], _++_}
-use mathlib.Core.Path.{_≡_, refl, sym, _∙_, ap}
-use Prim.Native.Nat.{ℕ, zero, suc, _+_, _≤_, _<_}
+use mathlib.Core.Bool.{true, false}
+use mathlib.Core.List.{List}
+use mathlib.Core.Path.{_≡_, refl}
+use Prim.Native.Nat.{ℕ, _+_, _≤_}
 use native.Mathlib.Decide.{ℕ-discrete}
 use native.Mathlib.Numerals.{add-one}
 use native.Mathlib.Omega.{arith}
 use borrow.Author.Tests.{eq-eqb, ne-eqb}
 use lib.Dec.{ltb}
-use lib.ListN.{length, getD, length-append}
-use lib.Seq.{sets, length-sets}
+use lib.ListN.{getD}
 use Rattle.number.specs.Number.{numberAt}
 use Rattle.number.specs.declared.Cursor.{Cursor}
 use Rattle.number.specs.declared.Number.the-variants.{Value, Refused}
 use Rattle.number.specs.declared.Refusal.{Refusal}
 use Rattle.items.specs.SpanLaws.{spanAt}
-use Rattle.sorting.specs.PutLaws.{put-more}
-use Rattle.pieces.specs.Pieces.{symbolsAt, isShorter, pieceAt, entryCount, piecesTo, countTo}
+use Rattle.pieces.specs.Pieces.{symbolsAt, isShorter, pieceAt, entryCount, countTo}
 
 -- ---- the symbols of an entry
 module _ (bytes : List ℕ) (place : ℕ) where
@@ -79,55 +77,3 @@ module _ (places others : List ℕ) where
   pub count-more : (s : ℕ) → countTo places others (s + 1) ≡ countTo places others s + entryCount (getD places s 0) (getD others s 0)
   unfolding countTo
   count-more s = rw add-one
-
-module _ (first places second others : List ℕ) where
-  pub pieces-none : (room : ℕ) → room + length (piecesTo first places second others 0) ≡ room
-  unfolding piecesTo
-  pieces-none room = omega arith
-
-  pub pieces-more : (s : ℕ) → piecesTo first places second others (s + 1) ≡ piecesTo first places second others s ++ pieceAt first (getD places s 0) second (getD others s 0)
-  unfolding piecesTo
-  pieces-more s = rw add-one
-
-  pub pieces-length : (s : ℕ)
-      → length (piecesTo first places second others (s + 1)) ≡ length (piecesTo first places second others s) + length (pieceAt first (getD places s 0) second (getD others s 0))
-  pieces-length s = rw (pieces-more s, length-append)
-
-  -- those of fewer states are no more bytes
-  pub pieces-part : (s n : ℕ) → s ≤ n → length (piecesTo first places second others s) ≤ length (piecesTo first places second others n)
-  pieces-part s zero h = let e : s ≡ 0 = omega arith in rw e (omega arith)
-  pieces-part s (suc n) h = go (ℕ-discrete s (suc n)) (λ l. pieces-part s n l)
-    where
-      go : Dec (s ≡ suc n) → (s ≤ n → length (piecesTo first places second others s) ≤ length (piecesTo first places second others n))
-          → length (piecesTo first places second others s) ≤ length (piecesTo first places second others (suc n))
-      go (yes e) f = rw e (omega arith)
-      go (no d) f = omega (arith, f (omega arith), rw add-one at (pieces-length n))
-
--- the entries of the first s states are put from an offset on, up to the next
-pub record PiecesPut (first places second others : List ℕ) (start : ℕ) (lent : List ℕ) (s next : ℕ) (out : List ℕ) : Type 0 where
-  pub ahead : next ≡ start + length (piecesTo first places second others s)
-  pub put : out ≡ sets lent start (piecesTo first places second others s)
-
-module _ {first places second others : List ℕ} {start : ℕ} {lent : List ℕ} where
-  pub pieces-put-none : PiecesPut first places second others start lent 0 start lent
-  unfolding piecesTo
-  pieces-put-none = record { ahead = omega arith; put = refl }
-
-  pub pieces-put-length : {s next : ℕ} {out : List ℕ} → PiecesPut first places second others start lent s next out → length out ≡ length lent
-  pieces-put-length {s} p = rw (p .put) (length-sets lent start (piecesTo first places second others s))
-
-  pub pieces-put-fits : {s next : ℕ} {out : List ℕ} (n : ℕ) → PiecesPut first places second others start lent s next out → s < n
-      → start + length (piecesTo first places second others n) ≤ length lent → next + length (pieceAt first (getD places s 0) second (getD others s 0)) ≤ length out
-  pieces-put-fits {s} n p h f =
-      omega (arith, p .ahead, pieces-put-length p, pieces-length first places second others s, pieces-part first places second others (s + 1) n (omega arith))
-
-  pub pieces-put-more : {s next : ℕ} {out : List ℕ} (more : ℕ) (new : List ℕ) → PiecesPut first places second others start lent s next out
-      → more ≡ next + length (pieceAt first (getD places s 0) second (getD others s 0)) → new ≡ sets out next (pieceAt first (getD places s 0) second (getD others s 0))
-      → PiecesPut first places second others start lent (s + 1) more new
-  pieces-put-more {s} {next} more new p e f =
-      let piece = pieceAt first (getD places s 0) second (getD others s 0) in
-      let stores = put-more (piecesTo first places second others s) piece lent start next (p .ahead) in
-      record {
-        ahead = omega (arith, p .ahead, pieces-length first places second others s);
-        put = rw (pieces-more first places second others s) (rw (p .put) at f ∙ stores);
-      }

@@ -4,6 +4,8 @@ pub mod StatewiseLaws
 pub mod OrderLaws
 pub mod PutLaws
 pub mod PutEntryLaws
+pub mod UpTo
+pub mod UpToLaws
 pub mod PutStatesLaws
 pub mod SortLaws
 pub mod SortingLaws

@@ -23,7 +23,6 @@ use Rattle.lists.specs.declared.Rest.{Rest}
 use Rattle.items.specs.Items.{Item, items, numbersOf}
 use Rattle.items.specs.Rearranged.{Rearranged}
 use Rattle.items.specs.RearrangedLaws.{rearranged-length, rearranged-bytes}
-use Rattle.items.specs.SpanLaws.{spansAt}
 use Rattle.items.specs.WrittenLaws.{list-counted, items-valid, list-front, list-written}
 use Rattle.items.specs.Valid.{AllValid}
 use Rattle.course.specs.AcceptedLaws.{ListAccepted, list-refused, accepted-first, accepted-ahead}
@@ -36,6 +35,7 @@ use Rattle.sorting.specs.OrderLaws.{clean-below, by-state-rearranged}
 use Rattle.sorting.specs.PutLaws.{put-both}
 use Rattle.sorting.specs.PutStatesLaws.{spans-by-state}
 use Rattle.sorting.specs.Sorting.{byState, sortedBytes, sortedBy, sortedIn, sorts}
+use Rattle.sorting.specs.UpTo.{spansTo}
 use Rattle.sorting.specs.declared.Sorted.{Sorted}
 use Rattle.sorting.specs.declared.Sorted.the-variants.{Count, Fault, Refused}
 
@@ -79,24 +79,24 @@ module _ {d : Sizes} {cells bytes : List ℕ} {rest : Rest} {places : List ℕ} 
       let valid : AllValid (tablesOf cells .terminals) xs = rw (terminals-are h) (items-valid (d .t) bytes (h .small .terminals) (s .list)) in
       by-state-rearranged (clean-below (tablesOf cells) (in-range h) valid (passed .same))
 
-  spans : spansAt bytes (take (d .s) places) ≡ bytesOf (numbersOf sorted)
+  spans : spansTo bytes places (d .s) ≡ bytesOf (numbersOf sorted)
   spans =
-      ap (λ (n : ℕ). spansAt bytes (take n places)) (sym (states-are h))
-      ∙ spans-by-state bytes b (h .small .terminals) (tablesOf cells) xs places (passed .marks .size) (passed .kept) (tablesOf cells .states) 0 (omega (arith, states-are h, h .small .states))
+      ap (λ (n : ℕ). spansTo bytes places n) (sym (states-are h))
+      ∙ spans-by-state bytes b (h .small .terminals) (tablesOf cells) xs places (passed .kept) (tablesOf cells .states) (omega (arith, states-are h, h .small .states))
 
   front : take (rest .at) bytes ≡ written (length xs)
   front = rw (accepted-first bytes (listOf (d .t) bytes) s, length-map) (list-front (d .t) bytes b (s .list) .0)
 
-  pub accepted-whole : rest .at + length (spansAt bytes (take (d .s) places)) ≡ length bytes
+  pub accepted-whole : rest .at + length (spansTo bytes places (d .s)) ≡ length bytes
   accepted-whole =
       let within : rest .at ≤ length bytes = rw (accepted-first bytes (listOf (d .t) bytes) s) (number-within bytes 0 (length (s .es)) (after (numberAt bytes 0)) (list-counted (d .t) bytes (s .list) .found)) in
       let all = ap length (list-written (d .t) bytes b (h .small .terminals) (s .list)) in
       omega (arith, within, length-take-le (rest .at) bytes within, ap length front, ap length spans, rearranged-bytes rearranged, length-append (written (length xs)) (bytesOf (numbersOf xs)), all)
 
-  pub accepted-sorted : (lent : List ℕ) (o : Sorted × List ℕ) → o ≡ sortedBy (take (rest .at) bytes ++ spansAt bytes (take (d .s) places)) (clean []) lent
+  pub accepted-sorted : (lent : List ℕ) (o : Sorted × List ℕ) → o ≡ sortedBy (take (rest .at) bytes ++ spansTo bytes places (d .s)) (clean []) lent
       → o ≡ sortedIn (tablesOf cells) bytes (listOf (d .t) bytes) lent
   accepted-sorted lent o f =
-      let whole : take (rest .at) bytes ++ spansAt bytes (take (d .s) places) ≡ sortedBytes (tablesOf cells) xs = rw (front, spans, rearranged-length rearranged) in
+      let whole : take (rest .at) bytes ++ spansTo bytes places (d .s) ≡ sortedBytes (tablesOf cells) xs = rw (front, spans, rearranged-length rearranged) in
       rw (s .list, passed .same) (rw whole at f)
 
 -- ---- what stops it before that, and what does not

@@ -1,10 +1,11 @@
 // The entries of a list copied to lent bytes.
 ghost use mathlib.Core.Path.{_≡_};
 ghost use Prim.Native.Nat.{_+_, _≤_};
-ghost use lib.ListN.{length, take};
+ghost use lib.ListN.{length};
 ghost use lib.Seq.{sets};
 ghost use Rattle.lists.specs.Entry.{part};
-ghost use Rattle.items.specs.SpanLaws.{spanAt, spansAt};
+ghost use Rattle.items.specs.SpanLaws.{spanAt};
+ghost use Rattle.sorting.specs.UpTo.{spansTo};
 use lists::Step;
 use lists::entry_at;
 
@@ -42,8 +43,8 @@ pub fn put_entry(list: &[u8], place: usize, out: &mut [u8], at: usize) -> usize
 // The entries at the places of the first states, one after another from an offset on.
 pub fn put_entries(list: &[u8], places: &[usize; 128], states: usize, out: &mut [u8], start: usize)
     requires { ⌜ states ≤ 128 ⌝ }
-    requires { ⌜ start + length (spansAt (now list) (take states (now places))) ≤ length (now out) ⌝ }
-    ensures { λ _. ⌜ now (out .exit) ≡ sets (now (out .entry)) start (spansAt (now (list .entry)) (take states (now (places .entry)))) ⌝ }
+    requires { ⌜ start + length (spansTo (now list) (now places) states) ≤ length (now out) ⌝ }
+    ensures { λ _. ⌜ now (out .exit) ≡ sets (now (out .entry)) start (spansTo (now (list .entry)) (now (places .entry)) states) ⌝ }
 {
     let mut at = start;
     let mut s: usize = 0;

@@ -6,10 +6,10 @@ ghost use lib.ListN.{length, take};
 ghost use Rattle.book.specs.Tables.{tablesOf};
 ghost use Rattle.book.specs.TablesLaws.{Accepted, Holds};
 ghost use Rattle.lists.specs.List.{listOf};
-ghost use Rattle.items.specs.SpanLaws.{spansAt};
 ghost use Rattle.course.specs.AcceptedLaws.{ListAccepted};
 ghost use Rattle.course.specs.Course.{clean};
 ghost use Rattle.sorting.specs.Sorting.{sortedBy, sortedIn, sorts};
+ghost use Rattle.sorting.specs.UpTo.{spansTo};
 use crate::Sorted;
 use crate::putting::copy_bytes;
 use crate::putting::put_entries;
@@ -35,8 +35,8 @@ fn put_list(
     out: &mut [u8],
 ) -> Sorted
     requires { ⌜ states ≤ 128 ⌝ }
-    requires { ⌜ first + length (spansAt (now list) (take states (now places))) ≡ length (now list) ⌝ }
-    ensures { λ r. ⌜ (r, now (out .exit)) ≡ sortedBy (take first (now (list .entry)) ++ spansAt (now (list .entry)) (take states (now (places .entry)))) (clean []) (now (out .entry)) ⌝ }
+    requires { ⌜ first + length (spansTo (now list) (now places) states) ≡ length (now list) ⌝ }
+    ensures { λ r. ⌜ (r, now (out .exit)) ≡ sortedBy (take first (now (list .entry)) ++ spansTo (now (list .entry)) (now (places .entry)) states) (clean []) (now (out .entry)) ⌝ }
 {
     let n = list.len();
     if out.len() < n {

@@ -3,8 +3,9 @@ use mathlib.Core.Path.{_≡_, refl, sym}
 use native.Mathlib.Omega.{arith}
 use Prim.Native.Nat.{_+_, _-_, _≤_}
 use lib.ListN.{length, getD}
-use Rattle.pieces.specs.Pieces.{piecesTo, countTo}
-use Rattle.pieces.specs.PiecesLaws.{pieces-none, pieces-length, pieces-part, count-zero, count-more, count-few}
+use Rattle.sorting.specs.UpToLaws.{up-to-none, up-to-length, up-to-part}
+use Rattle.pieces.specs.Pieces.{pieceOf, piecesTo, countTo}
+use Rattle.pieces.specs.PiecesLaws.{count-zero, count-more, count-few}
 use borrow.Author.Needs.{needs}
 use Rattle.pieces.proofs.pieces.measure.Statement.{statement}
 use Rattle.pieces.proofs.pieces.measure.Tie as tie
@@ -17,14 +18,16 @@ abbrev μ-loop : tie.MeasureT-loop
 μ-loop first places second others states room left₀ count₀ s₀ left count s = states - s
 
 loop-holds : tie.Need-loop-holds Inv-loop μ-loop
-loop-holds c = (omega arith, pieces-none _ _ _ _ _, sym (count-zero _ _), omega arith)
+loop-holds c =
+    let a = c .before .before .args in
+    (omega arith, omega (arith, up-to-none (pieceOf (a .first .now) (a .places .now) (a .second .now) (a .others .now))), sym (count-zero _ _), omega arith)
 
 returns : tie.Need-returns Inv-loop μ-loop
 returns c =
     let a = c .before .before .before .before .before .before .before .before .args in
     let s = c .before .before .before .before .before .loop .s in
-    let most = pieces-part (a .first .now) (a .places .now) (a .second .now) (a .others .now) (s + 1) (a .states) (omega arith) in
-    omega (arith, c .before .piece-size .ensures, pieces-length (a .first .now) (a .places .now) (a .second .now) (a .others .now) s, most)
+    let most = up-to-part (pieceOf (a .first .now) (a .places .now) (a .second .now) (a .others .now)) (s + 1) (a .states) (omega arith) in
+    omega (arith, c .before .piece-size .ensures, up-to-length (pieceOf (a .first .now) (a .places .now) (a .second .now) (a .others .now)) s, most)
 
 few : (c : tie.After-entry-count Inv-loop μ-loop) → c .entry-count .result ≤ 1
 few c =
@@ -40,7 +43,7 @@ loop-again c =
     let a = c .before .before .before .before .before .before .before .before .before .args in
     let s = c .before .before .before .before .before .before .loop .s in (
       omega arith,
-      omega (arith, c .before .before .piece-size .ensures, pieces-length (a .first .now) (a .places .now) (a .second .now) (a .others .now) s),
+      omega (arith, c .before .before .piece-size .ensures, up-to-length (pieceOf (a .first .now) (a .places .now) (a .second .now) (a .others .now)) s),
       omega (arith, c .entry-count .ensures, count-more (a .places .now) (a .others .now) s),
       omega (arith, few c),
     )

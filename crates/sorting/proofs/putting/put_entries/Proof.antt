@@ -2,28 +2,30 @@
 use mathlib.Core.Path.{_≡_}
 use native.Mathlib.Omega.{arith}
 use Prim.Native.Nat.{_-_, _≤_}
-use Rattle.sorting.specs.PutEntryLaws.{EntriesPut, entries-put-none, entries-put-length, entries-put-fits, entries-put-more}
+use lib.ListN.{getD}
+use Rattle.items.specs.SpanLaws.{spanAt}
+use Rattle.sorting.specs.UpToLaws.{PutUpTo, put-none, put-length, put-fits, put-state}
 use borrow.Author.Needs.{needs}
 use Rattle.sorting.proofs.putting.put_entries.Statement.{statement}
 use Rattle.sorting.proofs.putting.put_entries.Tie as tie
 
 abbrev Inv-loop : tie.InvT-loop
-Inv-loop list places states out₀ start at₀ s₀ out at s = (s ≤ states) × EntriesPut list places start out₀ s at out
+Inv-loop list places states out₀ start at₀ s₀ out at s = (s ≤ states) × PutUpTo (λ q. spanAt list (getD places q 0)) start out₀ s at out
 
 abbrev μ-loop : tie.MeasureT-loop
 μ-loop list places states out₀ start at₀ s₀ out at s = states - s
 
 loop-holds : tie.Need-loop-holds Inv-loop μ-loop
-loop-holds c = (omega arith, entries-put-none)
+loop-holds c = (omega arith, put-none)
 
 put-entry-requires : tie.Need-put-entry-requires Inv-loop μ-loop
-put-entry-requires c κs = entries-put-fits (c .before .before .before .before .before .before .args .states) (c .before .before .before .loop .inv .1) (c .before .before .loop-test .taken) (c .before .before .before .before .before .before .pre .1)
+put-entry-requires c κs = put-fits (c .before .before .before .before .before .before .args .states) (c .before .before .before .loop .inv .1) (c .before .before .loop-test .taken) (c .before .before .before .before .before .before .pre .1)
 
 loop-again : tie.Need-loop-again Inv-loop μ-loop
-loop-again c = (omega arith, entries-put-more _ _ (c .before .before .before .before .before .before .loop .inv .1) (c .before .before .put-entry .ensures .0) (c .before .before .put-entry .ensures .1))
+loop-again c = (omega arith, put-state _ _ (c .before .before .before .before .before .before .loop .inv .1) (c .before .before .put-entry .ensures .0) (c .before .before .put-entry .ensures .1))
 
 same-length : tie.Need-same-length Inv-loop μ-loop
-same-length c = entries-put-length (c .before .loop .inv .1)
+same-length c = put-length (c .before .loop .inv .1)
 
 returns : tie.Need-returns Inv-loop μ-loop
 returns c = let all : c .before .loop .s ≡ c .before .before .before .before .args .states = omega arith in rw all at (c .before .loop .inv .1 .put)
