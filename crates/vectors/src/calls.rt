@@ -11,87 +11,29 @@
 //   find_break s z n m  the same, where its reduction breaks
 //   map n m             n work cells and m cells
 //   sets n m k          n work cells, m masks and k sizes
-//   check_list          the bytes as a list
-//   entry k
-//   next_entry i k      from offset i on, with k left
-//   judge n m           n work cells and m stack cells
-//   sort_list n         to n bytes
-//   sort_orders, judge_orders   see orders.rt
 //   check_certificate   see certificates.rt
-ghost use mathlib.Core.Path.{_≡_};
-ghost use Prim.Native.Nat.{_≤_};
-ghost use lib.ListN.{length};
 use crate::certificates::check_certificate;
-use crate::numbers::cell;
-use crate::numbers::size;
-use crate::orders::in_orders;
-use crate::say;
 use purlquartz::purlquartz_check;
-use purlquartz::purlquartz_check_list;
-use purlquartz::purlquartz_entry;
 use purlquartz::purlquartz_find;
 use purlquartz::purlquartz_find_break;
-use purlquartz::purlquartz_judge;
 use purlquartz::purlquartz_map;
-use purlquartz::purlquartz_next_entry;
 use purlquartz::purlquartz_read;
 use purlquartz::purlquartz_run;
 use purlquartz::purlquartz_sets;
-use purlquartz::purlquartz_sort_list;
 use purlquartz::purlquartz_to_form_1;
 use purlquartz::purlquartz_to_form_2;
 use purlquartz::purlquartz_write;
-
-// What lent cells and masks hold, and lent bytes; no call writes it.
-const CELL: u16 = 43690;
-
-const BYTE: u8 = 170;
-
-const WORD: u32 = 43690;
-
-// The most of each that is lent.
-const WORK: usize = 65536;
-
-const CELLS: usize = 8600;
-
-const BYTES: usize = 16800;
-
-const MASKS: usize = 200;
-
-fn free_work() -> [u16; WORK]
-    ensures { λ r. ⌜ 65536 ≡ length r ⌝ }
-{
-    [CELL; WORK]
-}
-
-fn free_cells() -> [u16; CELLS]
-    ensures { λ r. ⌜ 8600 ≡ length r ⌝ }
-{
-    [CELL; CELLS]
-}
-
-fn free_bytes() -> [u8; BYTES]
-    ensures { λ r. ⌜ 16800 ≡ length r ⌝ }
-{
-    [BYTE; BYTES]
-}
-
-fn free_words() -> [u32; MASKS]
-    ensures { λ r. ⌜ 200 ≡ length r ⌝ }
-{
-    [WORD; MASKS]
-}
-
-// So many as the line says, and no more than there are.
-pub fn room(args: &[u32], k: usize, most: usize) -> usize
-    ensures { λ r. ⌜ r ≤ most ⌝ }
-{
-    let n = size(args, k);
-    if n < most {
-        return n;
-    }
-    most
-}
+use script::BYTES;
+use script::CELLS;
+use script::MASKS;
+use script::WORK;
+use script::cell;
+use script::free_bytes;
+use script::free_cells;
+use script::free_words;
+use script::free_work;
+use script::room;
+use script::say;
 
 fn read_to(bytes: &[u8], cells: &mut [u16]) {
     let mut answer = [0u64; 8];
@@ -234,53 +176,6 @@ fn sets(args: &[u32], cells: &[u16]) {
     sets_in(cells, &mut work[..n], &mut masks[..m], &mut sizes[..k]);
 }
 
-fn check_list(cells: &[u16], list: &[u8]) {
-    let mut answer = [0u64; 8];
-    purlquartz_check_list(cells, list, &mut answer);
-    say::answer(b"check_list", &answer);
-}
-
-fn entry(args: &[u32], cells: &[u16], list: &[u8]) {
-    let mut answer = [0u64; 8];
-    purlquartz_entry(cells, list, size(args, 0), &mut answer);
-    say::answer(b"entry", &answer);
-}
-
-fn next_entry(args: &[u32], list: &[u8]) {
-    let mut answer = [0u64; 8];
-    purlquartz_next_entry(list, size(args, 0), size(args, 1), &mut answer);
-    say::answer(b"next_entry", &answer);
-}
-
-fn judge_in(cells: &[u16], list: &[u8], work: &mut [u16], stack: &mut [u16]) {
-    let mut answer = [0u64; 8];
-    purlquartz_judge(cells, list, work, stack, &mut answer);
-    say::answer(b"judge", &answer);
-    say::cells(work);
-    say::cells(stack);
-}
-
-fn judge(args: &[u32], cells: &[u16], list: &[u8]) {
-    let mut work = free_work();
-    let mut stack = free_cells();
-    let n = room(args, 0, WORK);
-    let m = room(args, 1, CELLS);
-    judge_in(cells, list, &mut work[..n], &mut stack[..m]);
-}
-
-fn sort_list_to(cells: &[u16], list: &[u8], out: &mut [u8]) {
-    let mut answer = [0u64; 8];
-    purlquartz_sort_list(cells, list, out, &mut answer);
-    say::answer(b"sort_list", &answer);
-    say::bytes(out);
-}
-
-fn sort_list(args: &[u32], cells: &[u16], list: &[u8]) {
-    let mut out = free_bytes();
-    let n = room(args, 0, BYTES);
-    sort_list_to(cells, list, &mut out[..n]);
-}
-
 // The calls that read, check, write and convert a book. Answers whether the word is one of them.
 fn on_book(word: &[u8], args: &[u32], cells: &[u16], bytes: &[u8]) -> bool {
     if check::same(word, b"read") {
@@ -331,41 +226,11 @@ fn on_machine(word: &[u8], args: &[u32], cells: &[u16], sentence: &[u8]) -> bool
     false
 }
 
-fn on_list(word: &[u8], args: &[u32], cells: &[u16], list: &[u8]) -> bool {
-    if check::same(word, b"check_list") {
-        check_list(cells, list);
-        return true;
-    }
-    if check::same(word, b"entry") {
-        entry(args, cells, list);
-        return true;
-    }
-    if check::same(word, b"next_entry") {
-        next_entry(args, list);
-        return true;
-    }
-    if check::same(word, b"judge") {
-        judge(args, cells, list);
-        return true;
-    }
-    if check::same(word, b"sort_list") {
-        sort_list(args, cells, list);
-        return true;
-    }
-    false
-}
-
 pub fn call(word: &[u8], args: &[u32], cells: &[u16], bytes: &[u8]) {
     if on_book(word, args, cells, bytes) {
         trial::text(b"\n");
     }
     if on_machine(word, args, cells, bytes) {
-        trial::text(b"\n");
-    }
-    if on_list(word, args, cells, bytes) {
-        trial::text(b"\n");
-    }
-    if in_orders(word, args, cells, bytes) {
         trial::text(b"\n");
     }
     if check::same(word, b"check_certificate") {

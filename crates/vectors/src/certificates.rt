@@ -2,9 +2,9 @@
 // bytes are the sentences.
 //
 //   check_certificate n k m      n cells of the book, k crossings and m pairs
-use crate::calls::room;
-use crate::say;
 use purlquartz::purlquartz_check_certificate;
+use script::room;
+use script::say;
 
 fn check(cells: &[u16], crossings: &[u16], pairs: &[u16], sentences: &[u8]) {
     let mut answer = [0u64; 8];
