@@ -12,10 +12,20 @@
  *   for each state, for each nonterminal a goto: 0 none, else the state + 1
  *
  * In bytes each number takes one to three, the fewest possible: groups of seven bits, lowest
- * first, the top bit set on all but the last. The longest book has 16,679 bytes. Terminal 0 is
- * the end mark: no state shifts it, and accept stands only under it; it has a rank too. In form 1
- * a terminal's rank is its number. The start is state 0. Every call that takes a book takes both
- * forms.
+ * first, the top bit set on all but the last. All numbers from 0 to 2,097,151 can be written so and
+ * are read; one that is outside the range of its place, also one over 65,535, gets the refusal of
+ * its place. The longest book has 16,679 bytes. Terminal 0 is the end mark: no state shifts it, and
+ * accept stands only under it; it has a rank too. In form 1 a terminal's rank is its number. The
+ * start is state 0. Every call that takes a book takes both forms.
+ *
+ * A list holds sentences that fail. It is numbers in bytes, as in a book, at most 128,770 bytes:
+ *
+ *   the count of entries, 0 to 128
+ *   for each entry its length, 0 to 1,000, and so many symbols, 1 to T - 1; its lookahead, 0 to
+ *     T - 1; its article number, that of its message, 0 to 2,097,151
+ *
+ * Nothing marks a list that was written before entries had article numbers: it is refused, or read
+ * as its bytes now say.
  *
  * Slices. A slice is a pointer and a count of elements. The pointer must not be null, even when
  * the count is 0, and must be good for the count. Slices that are written to (not const) must
@@ -38,8 +48,8 @@
  *   number  cause                                              place
  *   1   a book, list or part of a certificate stops before a   where the missing number begins
  *       due number is complete
- *   2   a number is padded, too wide, or over 65,535           its first byte
- *       (in bytes only)
+ *   2   a number is badly formed: padded, or its third byte    its first byte
+ *       has the top bit set (in bytes only)
  *   3   the form is neither 1 nor 2                            the number's offset or index
  *   4   T, N, S or P outside its range                         the number's offset or index
  *   5   a production's left side or length outside its range   the number's offset or index
@@ -74,6 +84,7 @@ extern "C" {
 
 #define PURLQUARTZ_MOST_CELLS 8485u
 #define PURLQUARTZ_MOST_BYTES 16679u
+#define PURLQUARTZ_MOST_LIST_BYTES 128770u
 #define PURLQUARTZ_SENTENCE_BYTES 1000u
 #define PURLQUARTZ_STACK_CELLS 1024u
 /* Map cells that are no length. */
@@ -267,11 +278,12 @@ void purlquartz_sets(const uint16_t *cells, size_t cell_count,
                      uint64_t answer[8]);
 
 /*
- * Checks a list of sentences against a book. A list is numbers as in a book: the count of
- * entries, then for each its length, its symbols and its lookahead.
+ * Checks a list of sentences against a book: the count of entries, then for each its length, its
+ * symbols, its lookahead and its article number; nothing after.
  * Kind 1: answer[1] is the offset of the first entry, answer[2] how many there are.
  * Refusals: those of purlquartz_check; then, in reading order, 1, 2, 9 for the count; for each
- * entry 1, 2, 8 for its length, 1, 2, 7 for each symbol, 1, 2, 11 for its lookahead; 6.
+ * entry 1, 2, 8 for its length, 1, 2, 7 for each symbol, 1, 2, 11 for its lookahead, 1, 2 for its
+ * article number, which may be any number; 6.
  */
 void purlquartz_check_list(const uint16_t *cells, size_t cell_count,
                            const uint8_t *list, size_t list_count,
@@ -280,7 +292,8 @@ void purlquartz_check_list(const uint16_t *cells, size_t cell_count,
 /*
  * Looks up one entry of a list by its index from 0.
  * Kinds: 1 found, answer[1] is the offset of its symbols in the list, answer[2] how many there
- * are, one a byte, answer[3] its lookahead; 2 none, the list has no such entry.
+ * are, one a byte, answer[3] its lookahead, answer[4] its article number; 2 none, the list has no
+ * such entry.
  * Refusals: those of purlquartz_check_list.
  */
 void purlquartz_entry(const uint16_t *cells, size_t cell_count,
@@ -291,12 +304,12 @@ void purlquartz_entry(const uint16_t *cells, size_t cell_count,
 /*
  * Goes from entry to entry of a checked list: the entry at an offset, of which so many entries are
  * left. The first offset and count are answer[1] and answer[2] of purlquartz_check_list, each later
- * pair answer[4] and answer[5] of this call. The book is not needed any more, and all entries
+ * pair answer[5] and answer[6] of this call. The book is not needed any more, and all entries
  * together take time in proportion to the list.
- * Kinds: 1 found, answer[1] to answer[3] as by purlquartz_entry, answer[4] the offset after the
- * entry, answer[5] how many are left after it; 2 none, no entry is left.
- * No refusals. Any offset, count and bytes may be given: the answer is also 2 if no entry with
- * symbols and a lookahead below 32 stands at the offset.
+ * Kinds: 1 found, answer[1] to answer[4] as by purlquartz_entry, answer[5] the offset after the
+ * entry, answer[6] how many are left after it; 2 none, no entry is left.
+ * No refusals. Any offset, count and bytes may be given: the answer is also 2 if no whole entry
+ * with symbols and a lookahead below 32 stands at the offset.
  */
 void purlquartz_next_entry(const uint8_t *list, size_t list_count,
                            size_t offset, size_t left,
@@ -309,8 +322,8 @@ void purlquartz_next_entry(const uint8_t *list, size_t list_count,
  * Without one the list is complete if every state with a failing pair has its entry. A failing pair
  * is one whose action is error and that some sequence reaches, however long, or one whose action is
  * reduce and where some sequence, however long, makes that break: purlquartz_find_break then does
- * not answer none. The work cells are left as by purlquartz_find, and the first 1,024 stack cells
- * are zero afterwards.
+ * not answer none. Article numbers do not count. The work cells are left as by purlquartz_find, and
+ * the first 1,024 stack cells are zero afterwards.
  * Kinds: 1 complete; 2 uncovered, answer[1] is the lowest state with a failing pair and no entry;
  * 3 repeat, answer[1] is the entry; 4 wrong, answer[1] is the entry, answer[2] the kind of its
  * run's ending as in purlquartz_run, answer[3] to answer[5] its state, symbol and taken; 5 out of
@@ -324,10 +337,11 @@ void purlquartz_judge(const uint16_t *cells, size_t cell_count,
                       uint64_t answer[8]);
 
 /*
- * Sorts a list: writes its entries to the first lent bytes in ascending order of the state where
- * they fail; the bytes after them keep their values. They may come in any order, but none may be
- * wrong or repeat, as purlquartz_judge has it. The result is a list of as many bytes; lists with
- * the same entries are written alike, and one that is in order as it is.
+ * Sorts a list: writes its entries, each with its article number, to the first lent bytes in
+ * ascending order of the state where they fail; the bytes after them keep their values. They may
+ * come in any order, but none may be wrong or repeat, as purlquartz_judge has it. The result is a
+ * list of as many bytes; lists with the same entries, article numbers too, are written alike, and
+ * one that is in order as it is.
  * Kinds: 1 sorted, answer[1] is how many bytes were written; 3 repeat and 4 wrong, the first entry
  * that is so, with the values of purlquartz_judge, and then no lent byte has changed.
  * Refusals: those of purlquartz_check_list; 12 if there is a result and it has more bytes than are
@@ -341,9 +355,10 @@ void purlquartz_sort_list(const uint16_t *cells, size_t cell_count,
 /*
  * Joins two lists for the same book: of each state that an entry of either list fails in, writes
  * the entry with fewer symbols to the first lent bytes, at equal length the first list's, in
- * ascending order of the states; the bytes after them keep their values. Both lists must be
- * complete or uncovered, as purlquartz_judge has it. The result is a list without a fault, and
- * complete if every state with a failing pair has an entry in one of the lists.
+ * ascending order of the states; the bytes after them keep their values. An entry that is taken
+ * keeps its article number. Both lists must be complete or uncovered, as purlquartz_judge has it.
+ * The result is a list without a fault, and complete if every state with a failing pair has an
+ * entry in one of the lists.
  * Kinds: 1 joined, answer[1] is how many bytes were written; 3 repeat, 4 wrong and 5 out of order,
  * the first list's fault, or the second's if the first has none, with the values of
  * purlquartz_judge, and answer[7] is 1 or 2 for the list; then no lent byte has changed.

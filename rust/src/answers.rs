@@ -14,13 +14,15 @@ pub const LIST_ENTRIES: usize = 128;
 pub const MOST_CELLS: usize = 8_485;
 /// The most bytes of a book.
 pub const MOST_BYTES: usize = 16_679;
+/// The most bytes of a list: [`LIST_ENTRIES`] entries of [`SENTENCE_BYTES`] symbols.
+pub const MOST_LIST_BYTES: usize = 128_770;
 
 /// Why an input was refused, and where. A refused call has changed no lent memory.
 ///
 /// | number | cause | place |
 /// |---|---|---|
 /// | 1 | a book, list, row of claims or row of sentences stops before a due number is complete | where the missing number begins |
-/// | 2 | a number is padded, too wide, or over 65,535 | its first byte |
+/// | 2 | a number in bytes is badly formed: padded, or its third byte has the top bit set | its first byte |
 /// | 3 | the form is neither 1 nor 2 | the number's offset or index |
 /// | 4 | T, N, S or P outside its range | the number's offset or index |
 /// | 5 | a production's left side or length outside its range | the number's offset or index |
@@ -126,12 +128,14 @@ pub struct Rest {
     pub left: usize,
 }
 
-/// One entry of a list: where its symbols stand, how many there are, and its lookahead.
+/// One entry of a list: where its symbols stand, how many there are, its lookahead, and the article
+/// number of its message, 0 to 2,097,151.
 #[derive(Clone, Copy, Debug, PartialEq, Eq)]
 pub struct Entry {
     pub start: usize,
     pub length: usize,
     pub lookahead: u16,
+    pub article: u32,
 }
 
 impl Entry {

@@ -10,12 +10,20 @@
 //! list or lists, sentence or certificate, then 17, 10, 11, 13, 12. The 12 of [`sort_list`] and of
 //! [`join_lists`] alone comes later, once it is known that there is a result.
 //!
+//! In bytes a number takes one to three, the fewest possible, and may be from 0 to 2,097,151. One
+//! that is outside the range of its place, also one over 65,535, gets the refusal of its place.
+//!
 //! A pair of a state and a lookahead *fails* if its action is error and some sequence of terminals
 //! reaches it, or if its action is reduce and with some sequence that reduction cannot be done.
 //! [`find`] and [`find_break`] answer the shortest such sentence, and [`judge`] whether a list has
-//! one for every state that has a failing pair. The entries of a list have to stand in ascending
-//! order of the state where they fail, which [`sort_list`] brings them into. [`join_lists`] makes
-//! one list of two.
+//! one for every state that has a failing pair.
+//!
+//! A *list* is the count of its entries, and for each its length, its symbols, its lookahead and
+//! its article number, that of its message. Entries have to stand in ascending order of the state
+//! where they fail, which [`sort_list`] brings them into. [`join_lists`] makes one list of two. In
+//! both an entry keeps its article number, and no judgement depends on it. Nothing marks a list
+//! that was written before entries had article numbers: it is refused, or read as its bytes now
+//! say.
 //!
 //! A *certificate* shows that a map is a book's map: [`check_certificate`] looks whether it does,
 //! and [`certificate::make`] makes one.
@@ -175,8 +183,8 @@ pub fn sets(
 /// Checks a list against a book, and answers where its first entry begins and how many there are.
 ///
 /// Refusals: those of [`check`]; then with the offset of the number's first byte 1, 2, 9 for the
-/// count; for each entry 1, 2, 8 for its length, 1, 2, 7 for each symbol and 1, 2, 11 for its
-/// lookahead; 6.
+/// count; for each entry 1, 2, 8 for its length, 1, 2, 7 for each symbol, 1, 2, 11 for its
+/// lookahead and 1, 2 for its article number, which may be any number; 6.
 pub fn check_list(cells: &[u16], list: &[u8]) -> Result<Rest, Refusal> {
     let answer = accepted(foreign::check_list(cells, list))?;
     Ok(Rest {
@@ -194,14 +202,14 @@ pub fn entries<'list>(cells: &[u16], list: &'list [u8]) -> Result<Entries<'list>
 }
 
 /// Answers the next entry of a list that [`check_list`] has found good, and what is left after it,
-/// or none after the last. With any other rest it still answers: none if no entry with symbols and
-/// a lookahead below 32 stands at the offset.
+/// or none after the last. With any other rest it still answers: none if no whole entry with
+/// symbols and a lookahead below 32 stands at the offset.
 pub fn next_entry(list: &[u8], rest: Rest) -> Option<(Entry, Rest)> {
     let answer = foreign::next_entry(list, rest.offset, rest.left);
     one_entry(&answer).map(|entry| {
         let rest = Rest {
-            offset: answer[4] as usize,
-            left: answer[5] as usize,
+            offset: answer[5] as usize,
+            left: answer[6] as usize,
         };
         (entry, rest)
     })
@@ -218,8 +226,8 @@ pub fn entry(cells: &[u16], list: &[u8], index: usize) -> Result<Option<Entry>, 
 /// Judges a list: the first entry that is wrong, or else out of order, or else repeats a state; or,
 /// if there is none, whether every state with a failing pair is covered. An entry is right if its
 /// run ends as error or as broken with the whole sentence in, and out of order if that is in a
-/// lower state than the one before it. The work cells are zero as after [`find`], and so are the
-/// first [`STACK_CELLS`] stack cells.
+/// lower state than the one before it. Article numbers do not count. The work cells are zero as
+/// after [`find`], and so are the first [`STACK_CELLS`] stack cells.
 ///
 /// Refusals: those of [`check_list`]; 13 if too few work or stack cells are lent.
 pub fn judge(
@@ -238,11 +246,12 @@ pub fn judge(
     })
 }
 
-/// Writes a list to the first lent bytes with its entries in ascending order of the state where
-/// they fail, and answers how many. The bytes after them keep their values. The entries may come in
-/// any order, but none may be wrong or repeat a state: the first that is so is told as by
-/// [`judge`], and then no byte is written. The result has as many bytes as the list. Lists with the
-/// same entries are written alike, and one that is in order as it is.
+/// Writes a list to the first lent bytes with its entries, each with its article number, in
+/// ascending order of the state where they fail, and answers how many. The bytes after them keep
+/// their values. The entries may come in any order, but none may be wrong or repeat a state: the
+/// first that is so is told as by [`judge`], and then no byte is written. The result has as many
+/// bytes as the list. Lists with the same entries, article numbers too, are written alike, and one
+/// that is in order as it is.
 ///
 /// Refusals: those of [`check_list`]; 12 if there is a result and it has more bytes than are lent.
 pub fn sort_list(cells: &[u16], list: &[u8], bytes: &mut [u8]) -> Result<Sorted, Refusal> {
@@ -263,9 +272,10 @@ pub fn sort_list(cells: &[u16], list: &[u8], bytes: &mut [u8]) -> Result<Sorted,
 /// Joins two lists for the same book, and answers how many bytes that has: for each state that an
 /// entry of either list fails in, the entry with fewer symbols is written to the first lent bytes,
 /// at equal length the first list's, in ascending order of the states. The bytes after them keep
-/// their values. Both lists have to be without a fault by [`judge`]: else the first list's fault is
-/// told, or the second's if the first has none, and then no byte is written. The result has no
-/// fault, and is complete if each state with a failing pair has an entry in one of them.
+/// their values. An entry that is taken keeps its article number. Both lists have to be without a
+/// fault by [`judge`]: else the first list's fault is told, or the second's if the first has none,
+/// and then no byte is written. The result has no fault, and is complete if each state with a
+/// failing pair has an entry in one of them.
 ///
 /// Refusals: those of [`check`]; those of [`check_list`] for the first list, then for the second,
 /// before any fault; 12 if there is a result and it has more bytes than are lent.
@@ -348,6 +358,7 @@ fn one_entry(answer: &Answer) -> Option<Entry> {
             start: answer[1] as usize,
             length: answer[2] as usize,
             lookahead: answer[3] as u16,
+            article: answer[4] as u32,
         }),
         2 => None,
         kind => unknown(kind),

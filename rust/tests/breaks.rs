@@ -360,8 +360,9 @@ fn state_that_only_breaks(calls: &Calls) {
 fn past_the_limits(calls: &Calls) {
     let book = deep_book();
     let lines = covering(&mut Random::new(1), &book).into_iter();
-    let (deep, right): (Vec<Line>, Vec<Line>) = lines.partition(|(sentence, lookahead)| {
-        matches!(run(calls, &book, sentence, *lookahead), Ending::Deep(_))
+    let (deep, right): (Vec<Line>, Vec<Line>) = lines.partition(|line| {
+        let ending = run(calls, &book, &line.sentence, line.lookahead);
+        matches!(ending, Ending::Deep(_))
     });
     let ending = Ending::Deep(stop(33, 31, 30));
     let wrong = Judgement::Wrong { entry: 0, ending };

@@ -18,11 +18,12 @@ use both::compare;
 use both::{Calls, Checker, INDEPENDENT, LIBRARY};
 use independent::book::Book;
 use independent::calls::map_of;
+use independent::numbers::{decoded, encoded};
 use independent::summaries::{Summaries, OVER};
 use purlquartz::certificate::{make, Certificate};
 use purlquartz::*;
 use random::books::{large_taste, medium_book, small_book, tied_book, wild};
-use random::bytes::{damaged, damaged_cells};
+use random::bytes::{damaged, damaged_cells, widened};
 use random::certificates::{disturb, disturb_sentence, weak_places, weaken, Pieces};
 use random::grammars::long_book;
 use random::Random;
@@ -363,6 +364,26 @@ fn damaged_certificates() {
     }
     tally.expect("Accepted Range Roads Sentences");
     tally.expect("1 2 3 4 5 16 14 15 6 7 8");
+}
+
+/// A number of a sentence over 65,535 has the refusal of its place, also where its low 16 bits are in
+/// range.
+#[test]
+fn wide_numbers_in_sentences() {
+    let mut random = Random::new(41);
+    let mut tally = Tally::default();
+    for round in 0..5_000 {
+        let book = match round % 20 {
+            0 => medium_book(&mut random),
+            _ => small_book(&mut random),
+        };
+        let mut certificate = Pieces::of(&book).certificate();
+        let numbers = decoded(&certificate.sentences);
+        certificate.sentences = encoded(&widened(&mut random, &numbers));
+        let word = tally.compare(&book.cells(), &certificate);
+        assert!(["7", "8"].contains(&&word[..]), "{word}");
+    }
+    tally.expect("7 8");
 }
 
 /// The comparison must notice a wrong verdict and a wrong place.

@@ -24,11 +24,11 @@ use purlquartz::*;
 use random::books::{
     breakable, breaking_book, large_taste, medium_book, small_book, tied_book, wild,
 };
-use random::bytes::{damaged, damaged_cells};
+use random::bytes::{damaged, damaged_cells, widened};
 use random::grammars::long_book;
 use random::lists::{
     covering, damaged_list, encode_list, failing_lines, line, lines, sentence, taken_sentence,
-    two_lists, varied, Line,
+    two_lists, varied, wide_list, Line,
 };
 use random::ranks::{in_every_order, ranked, unranked};
 use random::Random;
@@ -64,6 +64,14 @@ impl Tally {
             let times = self.seen.get(&(call, word.to_string())).copied();
             assert!(times.unwrap_or(0) >= 5, "{call} {word}: {times:?}");
         }
+    }
+
+    /// Each of the answers was seen, and no other.
+    fn expect_only(&self, call: &'static str, words: &str) {
+        self.expect(call, words);
+        let others = self.seen.keys().filter(|(seen, _)| *seen == call);
+        let mut others = others.filter(|(_, word)| !words.split(' ').any(|known| known == word));
+        assert_eq!(others.next(), None);
     }
 }
 
@@ -130,6 +138,23 @@ fn books_in_bytes() {
         }
     }
     tally.expect("read", " 1 2 3 4 5 16 14 15 6 12");
+}
+
+/// A number over 65,535 has the refusal of its place, also where its low 16 bits are in range.
+#[test]
+fn wide_numbers_in_books() {
+    let mut random = Random::new(22);
+    let mut tally = Tally::default();
+    for round in 0..30_000 {
+        let book = some_book(&mut random, round);
+        let cells = book.cells();
+        let lent = lend(&mut random, cells.len());
+        let numbers: Vec<u32> = cells.iter().map(|&cell| cell.into()).collect();
+        let bytes = encoded(&widened(&mut random, &numbers));
+        let outcome = compare::read(&LIBRARY, &bytes, &lent);
+        tally.note("read", outcome, &cells);
+    }
+    tally.expect_only("read", "3 4 5 16 14 15");
 }
 
 #[test]
@@ -500,6 +525,25 @@ fn lists() {
     tally.expect("sort_list", "1 2 3 4 5 16 14 15 6 7 8 9 11 12");
 }
 
+/// An article number over 65,535 is read, and any other number refused by its place.
+#[test]
+fn wide_numbers_in_lists() {
+    let mut random = Random::new(40);
+    let mut tally = Tally::default();
+    for _ in 0..15_000 {
+        let book = small_book(&mut random);
+        let cells = book.cells();
+        let lines = lines(&mut random, &book);
+        let list = wide_list(&mut random, &lines);
+        compare_list(&mut random, &mut tally, &book, &cells, &list);
+    }
+    tally.expect_only("check_list", "Rest 7 8 9 11");
+    tally.expect_only("entry", "Some None 7 8 9 11");
+    tally.expect("judge", "Complete Uncovered Repeat Wrong OutOfOrder");
+    tally.expect("judge", "7 8 9 11 13");
+    tally.expect_only("sort_list", "List Repeat Wrong 7 8 9 11 12");
+}
+
 /// Many lists for each book.
 #[test]
 fn lists_of_shipped_books() {
@@ -547,9 +591,9 @@ fn lists_of_books_that_break() {
 }
 
 /// Whether the run of an entry ends as broken with the whole sentence in.
-fn ends_broken(book: &Book, (sentence, lookahead): &Line) -> bool {
-    let (ending, _) = run(book, sentence, *lookahead);
-    matches!(ending, Ending::Broken(stop) if usize::from(stop.taken) == sentence.len())
+fn ends_broken(book: &Book, line: &Line) -> bool {
+    let (ending, _) = run(book, &line.sentence, line.lookahead);
+    matches!(ending, Ending::Broken(stop) if usize::from(stop.taken) == line.sentence.len())
 }
 
 /// Two lists joined, so many times, either of which may be damaged.
@@ -801,10 +845,23 @@ mod faults {
         (INDEPENDENT.sort_list)(cells, list, bytes)
     }
 
+    /// Each entry gets the article number that stood in its place, which takes one byte.
+    fn articles_left(cells: &[u16], list: &[u8], bytes: &mut [u8]) -> Result<Sorted, Refusal> {
+        let given = (INDEPENDENT.entries)(cells, list)?;
+        let answer = (INDEPENDENT.sort_list)(cells, list, bytes)?;
+        if let Sorted::List(count) = answer {
+            let sorted = (INDEPENDENT.entries)(cells, &bytes[..count])?;
+            for (given, sorted) in given.into_iter().zip(sorted) {
+                bytes[sorted.start + sorted.length + 1] = given.article as u8;
+            }
+        }
+        Ok(answer)
+    }
+
     /// Entries in the states 0 and 2 in either order, and twice the one.
     #[test]
     fn a_wrong_sorting_is_noticed() {
-        let [start, open] = [(vec![], 0), (vec![2], 0)];
+        let [start, open] = [line(&[], 0).with_article(5), line(&[2], 0)];
         let lists = [[0, 1], [1, 0], [1, 1]].map(|order| {
             let lines = order.map(|at| [&start, &open][at].clone());
             lines.to_vec()
@@ -822,6 +879,30 @@ mod faults {
         assert_eq!(noticed(left_as_it_is), [false, true, true]);
         assert_eq!(noticed(byte_after_list), [true, true, true]);
         assert_eq!(noticed(byte_in_any_case), [false, false, true]);
+        assert_eq!(noticed(articles_left), [false, true, false]);
+    }
+
+    type Entered = Result<Option<Entry>, Refusal>;
+
+    fn article_of_16_bits(cells: &[u16], list: &[u8], index: usize) -> Entered {
+        let mut entry = (INDEPENDENT.entry)(cells, list, index)?;
+        if let Some(entry) = &mut entry {
+            entry.article %= 65_536;
+        }
+        Ok(entry)
+    }
+
+    #[test]
+    fn a_wrong_article_is_noticed() {
+        let subject = Calls {
+            entry: article_of_16_bits,
+            ..INDEPENDENT
+        };
+        let noticed = [65_535, 65_536, 2_097_151].map(|article| {
+            let list = encode_list(&[line(&[], 0).with_article(article)]);
+            compare::entry(&subject, &bracket(), &list, 0).is_err()
+        });
+        assert_eq!(noticed, [false, true, true]);
     }
 
     type Joining = Result<Joined, JoinRefusal>;
@@ -846,12 +927,14 @@ mod faults {
         (INDEPENDENT.join_lists)(cells, one, other, bytes)
     }
 
-    /// Lists of one entry: the same, another of equal length, a shorter one, and a wrong one.
+    /// Lists of one entry: the same, one with another article number, another of equal length, a
+    /// shorter one, and a wrong one.
     #[test]
     fn a_wrong_joining_is_noticed() {
         let start = line(&[], 0);
         let lists = [
             [start.clone(), start.clone()],
+            [start.clone(), start.with_article(1)],
             [start.clone(), line(&[], 3)],
             [line(&[2, 1], 1), line(&[1], 1)],
             [line(&[], 1), start],
@@ -867,11 +950,14 @@ mod faults {
                 compare::join_lists(&subject, &bracket(), [first, second], &bytes).is_err()
             })
         };
-        assert_eq!(noticed(INDEPENDENT.join_lists), [false; 4]);
-        assert_eq!(noticed(the_second_first), [false, true, false, true]);
-        assert_eq!(noticed(the_first_alone), [false, false, true, false]);
-        assert_eq!(noticed(byte_after_joined), [true; 4]);
-        assert_eq!(noticed(count_in_any_case), [false, false, false, true]);
+        assert_eq!(noticed(INDEPENDENT.join_lists), [false; 5]);
+        let at_equal_length = [false, true, true, false, true];
+        assert_eq!(noticed(the_second_first), at_equal_length);
+        let at_the_shorter = [false, false, false, true, false];
+        assert_eq!(noticed(the_first_alone), at_the_shorter);
+        assert_eq!(noticed(byte_after_joined), [true; 5]);
+        let at_the_fault = [false, false, false, false, true];
+        assert_eq!(noticed(count_in_any_case), at_the_fault);
     }
 
     fn cell_after_book(cells: &[u16], lent: &mut [u16]) -> Result<usize, Refusal> {

@@ -86,9 +86,9 @@ fn answers(calls: &Calls, cells: &[u16], questions: &Questions) -> Answers {
     let mut set_sizes = sets.clone();
     (calls.map)(cells, &mut work, &mut map).expect("a map");
     (calls.sets)(cells, &mut work, &mut sets, &mut set_sizes).expect("sets");
-    let runs = questions.lines.iter().map(|(sentence, lookahead)| {
+    let runs = questions.lines.iter().map(|line| {
         let mut stack = vec![0; STACK_CELLS];
-        let ending = (calls.run)(cells, sentence, *lookahead, &mut stack);
+        let ending = (calls.run)(cells, &line.sentence, line.lookahead, &mut stack);
         (ending, stack)
     });
     let lists = questions.lists.iter().map(|list| ListAnswers {

@@ -15,15 +15,18 @@ mod made;
 mod random;
 mod shipped;
 
-use both::lists::{in_any_room, is_fault, judge, lines_of, sort, states, TOO_SHORT, UNTOUCHED};
+use both::lists::{is_fault, join, join_into, judge, lines_of, sort, states, TOO_SHORT, UNTOUCHED};
 use both::Calls;
 use independent::book::Book;
 use independent::calls::judge_cover;
-use made::{bracket_lines, ladder, ladder_lines, lengthened};
+use made::{bracket_lines, highly_numbered, ladder, ladder_lines, lengthened};
 use purlquartz::*;
 use random::books::{breakable, breaking_book, medium_book, small_book};
 use random::grammars::long_book;
-use random::lists::{encode_list, failing_lines, line, list_of, two_lists, Line};
+use random::lists::{
+    all_with_article, encode_list, failing_lines, line, list_of, numbered, two_lists,
+    with_articles, Line,
+};
 use random::ranks::unranked;
 use random::Random;
 use shipped::{shipped, SHIPPED};
@@ -39,39 +42,11 @@ on_both! {
     broken_entries
     faults_of_either_list
     refused_in_order
+    too_short_after_a_fault
     laws_of_random_lists
     laws_where_reductions_break
     laws_of_long_sentences
     laws_of_shipped_books
-}
-
-/// The answer with so many lent bytes, and what these hold then.
-fn join_into(
-    calls: &Calls,
-    cells: &[u16],
-    [first, second]: [&[u8]; 2],
-    room: usize,
-) -> (Result<Joined, JoinRefusal>, Vec<u8>) {
-    let mut bytes = vec![UNTOUCHED; room];
-    let answer = (calls.join_lists)(cells, first, second, &mut bytes);
-    (answer, bytes)
-}
-
-/// The joined list, or the fault.
-fn join(calls: &Calls, book: &Book, first: &[u8], second: &[u8]) -> Result<Vec<u8>, Joined> {
-    let cells = book.cells();
-    let too_short = JoinRefusal {
-        list: None,
-        refusal: TOO_SHORT,
-    };
-    in_any_room(first.len() + second.len(), too_short, |room| {
-        let (answer, bytes) = join_into(calls, &cells, [first, second], room);
-        let told = answer.map(|joined| match joined {
-            Joined::List(count) => Ok(count),
-            fault => Err(fault),
-        });
-        (told, bytes)
-    })
 }
 
 /// The numbers below a count whose bit is set.
@@ -91,7 +66,7 @@ fn mixed(set: usize, lines: &[Line], others: &[Line]) -> Vec<u8> {
 /// Each entry in one of the lists, in both, or in none.
 fn brackets_list_split_in_every_way(calls: &Calls) {
     let book = shipped("bracket");
-    let lines = bracket_lines();
+    let lines = numbered(bracket_lines());
     for (one, other) in (0..64).flat_map(|one| (0..64).map(move |other| (one, other))) {
         let [first, second, either] =
             [one, other, one | other].map(|set| list_of(&lines, &members(set, 6)));
@@ -104,13 +79,14 @@ fn brackets_list_split_in_every_way(calls: &Calls) {
     }
 }
 
-/// Bracket's states 0, 1, 2 and 5 fail with another lookahead as well.
+/// Bracket's states 0, 1, 2 and 5 fail with another lookahead as well; the lines of 3 and 4 differ
+/// in their article numbers alone.
 fn the_first_lists_at_equal_length(calls: &Calls) {
     let book = shipped("bracket");
-    let lines = bracket_lines();
-    let mut others = lines.clone();
+    let lines = numbered(bracket_lines());
+    let mut others = highly_numbered(bracket_lines());
     for (state, lookahead) in [(0, 3), (1, 2), (2, 3), (5, 2)] {
-        others[state].1 = lookahead;
+        others[state].lookahead = lookahead;
     }
     let whole = encode_list(&others);
     for set in 0..64 {
@@ -121,10 +97,11 @@ fn the_first_lists_at_equal_length(calls: &Calls) {
     }
 }
 
-/// All states of Bracket but 0 have a longer line.
+/// All states of Bracket but 0 have a longer line. Its article number is 0, so that it takes fewer
+/// bytes than the shorter one.
 fn the_shorter_of_either_list(calls: &Calls) {
     let book = shipped("bracket");
-    let short = bracket_lines().split_off(1);
+    let short = highly_numbered(bracket_lines().split_off(1));
     let longer: [(&[u8], u16); 5] = [
         (&[2, 1], 1),
         (&[2, 2], 0),
@@ -155,7 +132,8 @@ fn lengths_of_one_byte_and_two(calls: &Calls) {
     let list = |symbol, length| {
         let mut sentence = vec![1; 127];
         sentence.resize(length, symbol);
-        encode_list(&[(sentence, 0)])
+        let article = 65_536 * u32::from(symbol) - 1;
+        encode_list(&[line(&sentence, 0).with_article(article)])
     };
     let lengths = [127, 128, 129, 255, 256, 257, 383, 384, 999, 1_000];
     for one in lengths {
@@ -170,7 +148,7 @@ fn lengths_of_one_byte_and_two(calls: &Calls) {
 /// Any two of lists with no entry, one, 64, 127 and 128.
 fn counts_of_one_byte_and_two(calls: &Calls) {
     let book = ladder();
-    let lines = ladder_lines();
+    let lines = numbered(ladder_lines());
     let all = u128::MAX;
     let even = all / 3;
     let sets = [0, 1, 1 << 127, all >> 64, all << 64, even, !even];
@@ -187,10 +165,13 @@ fn counts_of_one_byte_and_two(calls: &Calls) {
     }
 }
 
-/// 128 entries of 1,000 symbols, or one less.
+/// 128 entries of 1,000 symbols, or one less, with article numbers of three bytes.
 fn longest_lists(calls: &Calls) {
     let book = ladder();
-    let [long, short] = [1_000, 999].map(|length| encode_list(&lengthened(ladder_lines(), length)));
+    let lines = highly_numbered(ladder_lines());
+    let lines = |length| lengthened(lines.clone(), length);
+    let [long, short] = [1_000, 999].map(|length| encode_list(&lines(length)));
+    assert_eq!(long.len(), MOST_LIST_BYTES);
     for [first, second] in [[&long, &short], [&short, &long], [&short, &short]] {
         assert_eq!(join(calls, &book, first, second), Ok(short.clone()));
     }
@@ -269,8 +250,7 @@ fn first_fault(judgements: [Judgement; 2]) -> Option<Joined> {
         .map(|(list, judgement)| Joined::Fault { list, judgement })
 }
 
-/// The book's refusals, then the first list's, then the second's, all before any fault; 12 after
-/// it.
+/// The book's refusals, then the first list's, then the second's, all before any fault.
 fn refused_in_order(calls: &Calls) {
     let cells = shipped("bracket").cells();
     let refused = |cells: &[u16], lists: [&[u8]; 2], room, list, number, place| {
@@ -281,26 +261,14 @@ fn refused_in_order(calls: &Calls) {
     };
     let good = encode_list(&bracket_lines());
     let longer = [&good[..], &[0]].concat();
-    let bad: [(&[u8], u16, usize); 11] = [
-        (&[], 1, 0),
-        (&good[..20], 1, 20),
-        (&[0x80, 0], 2, 0),
-        (&[0x81, 1], 9, 0),
-        (&[1, 0xe9, 7], 8, 1),
-        (&[1, 1, 4, 0], 7, 2),
-        (&[1, 1, 0, 0], 7, 2),
-        (&[1, 0, 4], 11, 2),
-        (&longer, 6, 21),
-        // The first entry is passed; in the second list the second repeats the first.
-        (&[2, 0, 1, 0, 4], 11, 4),
-        (&[2, 0, 0, 0, 0, 0], 6, 5),
-    ];
+    let bad = [(&good[..26], 1, 26), (&longer, 6, 27)];
+    let bad = [&bad[..], &made::REFUSED_LISTS].concat();
     let accepted = judged_lists();
-    for (list, number, place) in bad {
+    for &(list, number, place) in &bad {
         for room in [0, 99] {
             refused(&cells[..38], [list, &good], room, None, 1, 38);
             refused(&cells[..38], [&good, list], room, None, 1, 38);
-            for (other, ..) in bad {
+            for &(other, ..) in &bad {
                 let lists = [list, other];
                 refused(&cells, lists, room, Some(Which::First), number, place);
             }
@@ -312,7 +280,13 @@ fn refused_in_order(calls: &Calls) {
             }
         }
     }
-    for (first, one) in &accepted {
+}
+
+/// 12 comes after any fault, and is of no list.
+fn too_short_after_a_fault(calls: &Calls) {
+    let cells = shipped("bracket").cells();
+    let good = encode_list(&bracket_lines());
+    for (first, one) in &judged_lists() {
         let told = match first_fault([*one, Judgement::Complete]) {
             Some(fault) => Ok(fault),
             None => Err(JoinRefusal {
@@ -320,7 +294,7 @@ fn refused_in_order(calls: &Calls) {
                 refusal: TOO_SHORT,
             }),
         };
-        for room in [0, 20] {
+        for room in [0, 26] {
             let answer = join_into(calls, &cells, [first, &good], room);
             assert_eq!(answer, (told, vec![UNTOUCHED; room]));
         }
@@ -328,26 +302,36 @@ fn refused_in_order(calls: &Calls) {
 }
 
 /// How often joined lists were complete and uncovered, whose faults were told, and of states that
-/// both lists cover whose line was shorter, or as long and another.
+/// both lists cover whose line was shorter; or, as long, had another article number alone, or was
+/// another in some other way.
 #[derive(Debug, Default)]
 struct Tally {
     joined: [usize; 2],
     faults: [usize; 2],
     shorter: [usize; 2],
-    as_long: usize,
+    as_long: [usize; 2],
 }
 
 impl Tally {
+    fn note_as_long(&mut self, one: &Line, other: &Line) {
+        let is_another = one.with_article(other.article) != *other;
+        self.as_long[usize::from(is_another)] += usize::from(one != other);
+    }
+
     fn expect(&self, least: usize) {
-        let counts = [self.joined, self.faults, self.shorter].concat();
-        let mut counts = counts.into_iter().chain([self.as_long]);
+        let counts = [self.joined, self.faults, self.shorter, self.as_long].concat();
+        let mut counts = counts.into_iter();
         assert!(counts.all(|count| count >= least), "{self:?}");
     }
 }
 
-/// What holds of every two lists, and of a book in either form.
-fn laws(calls: &Calls, tally: &mut Tally, book: &Book, lists: [Vec<Line>; 2]) {
-    let [first, second] = lists.map(|lines| encode_list(&lines));
+/// What holds of every two lists, whatever their article numbers, and of a book in either form.
+fn laws(calls: &Calls, random: &mut Random, tally: &mut Tally, book: &Book, lists: [Vec<Line>; 2]) {
+    let others = lists.clone().map(|lines| with_articles(random, lines));
+    let [lists, others] = [lists, others].map(|lists| lists.map(|lines| encode_list(&lines)));
+    let [one, other] = [&lists, &others].map(|lists| joined_lines(calls, book, lists));
+    assert_eq!(one, other);
+    let [first, second] = lists;
     let joined = join(calls, book, &first, &second);
     for form in [1, 2] {
         let book = unranked(book).in_form(form);
@@ -364,6 +348,12 @@ fn laws(calls: &Calls, tally: &mut Tally, book: &Book, lists: [Vec<Line>; 2]) {
             tally.faults[usize::from(second)] += 1;
         }
     }
+}
+
+/// The lines of two lists joined, but for their article numbers, or the fault.
+fn joined_lines(calls: &Calls, book: &Book, lists: &[Vec<u8>; 2]) -> Result<Vec<Line>, Joined> {
+    let joined = join(calls, book, &lists[0], &lists[1])?;
+    Ok(all_with_article(&lines_of(calls, book, &joined), 0))
 }
 
 /// The joined list has the shorter lines and no others, in order, and is judged by the states that
@@ -401,9 +391,10 @@ fn shorter_lines(
             lines.insert(state, other);
             continue;
         };
-        let is_shorter = other.0.len() < one.0.len();
-        match one.0.len() == other.0.len() {
-            true => tally.as_long += usize::from(*one != other),
+        let [length, of_other] = [one, &other].map(|line| line.sentence.len());
+        let is_shorter = of_other < length;
+        match length == of_other {
+            true => tally.note_as_long(one, &other),
             false => tally.shorter[usize::from(is_shorter)] += 1,
         }
         if is_shorter {
@@ -418,7 +409,7 @@ fn laws_of_book(calls: &Calls, random: &mut Random, tally: &mut Tally, book: &Bo
     let failing = failing_lines(random, book);
     for _ in 0..rounds {
         let lists = two_lists(random, book, &failing);
-        laws(calls, tally, book, lists);
+        laws(calls, random, tally, book, lists);
     }
 }
 

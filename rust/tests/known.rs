@@ -68,13 +68,20 @@ fn find(calls: &Calls, cells: &[u16], state: u16, lookahead: u16) -> Result<Vec<
 fn one_number(calls: &Calls) {
     let reads = |bytes: &[u8]| (calls.read)(bytes, &mut [0; 9]).expect_err("no book");
     let refusal = |number| Refusal { number, place: 0 };
-    assert_eq!(reads(&[0x80, 0x01]), refusal(3));
-    assert_eq!(reads(&[0xff, 0xff, 0x03]), refusal(3));
+    for good in [
+        &[0x80, 0x01][..],
+        &[0xff, 0xff, 0x03],
+        &[0x80, 0x80, 0x04],
+        &[0x81, 0x80, 0x04],
+        &[0xff, 0xff, 0x7f],
+    ] {
+        assert_eq!(reads(good), refusal(3));
+    }
     for bad in [
-        &[0x80, 0x80, 0x04][..],
-        &[0x80, 0x00],
+        &[0x80, 0x00][..],
         &[0x80, 0x80, 0x80],
         &[0xff, 0x80, 0x00],
+        &[0xff, 0xff, 0xff],
     ] {
         assert_eq!(reads(bad), refusal(2));
     }
@@ -336,18 +343,19 @@ fn bracket_lists(calls: &Calls) {
         (calls.judge)(&cells, list, &mut work, &mut [0; STACK_CELLS])
     };
     let list = [
-        6, 0, 0, 1, 1, 1, 1, 2, 0, 1, 1, 3, 2, 2, 1, 0, 3, 2, 1, 3, 1,
+        6, 0, 0, 0, 1, 1, 1, 0, 1, 2, 0, 0, 1, 1, 3, 0, 2, 2, 1, 0, 0, 3, 2, 1, 3, 1, 0,
     ];
     assert_eq!(judge(&list), Ok(Judgement::Complete));
-    let shorter = [5, 0, 0, 1, 1, 1, 1, 1, 3, 2, 2, 1, 0, 3, 2, 1, 3, 1];
+    let shorter = [&[5], &list[1..8], &list[12..]].concat();
     assert_eq!(judge(&shorter), Ok(Judgement::Uncovered { state: 2 }));
     let entries = (calls.entries)(&cells, &list).expect("a good list");
     let lookaheads: Vec<u16> = entries.iter().map(|entry| entry.lookahead).collect();
     assert_eq!(lookaheads, [0, 1, 0, 3, 0, 1]);
+    assert!(entries.iter().all(|entry| entry.article == 0));
     let rest = |offset, left| Rest { offset, left };
-    let next = (calls.next_entry)(&list, rest(12, 2)).expect("an entry");
-    assert_eq!((next.0.symbols(&list), next.1), (&[2, 1][..], rest(16, 1)));
-    assert_eq!((calls.next_entry)(&list, rest(12, 0)), None);
+    let next = (calls.next_entry)(&list, rest(16, 2)).expect("an entry");
+    assert_eq!((next.0.symbols(&list), next.1), (&[2, 1][..], rest(21, 1)));
+    assert_eq!((calls.next_entry)(&list, rest(16, 0)), None);
     let entry = (calls.entry)(&cells, &list, 4).expect("a good list");
     assert_eq!(entry.map(|entry| entry.symbols(&list)), Some(&[2, 1][..]));
     assert_eq!((calls.entry)(&cells, &list, 6), Ok(None));

@@ -18,11 +18,14 @@ mod shipped;
 use both::lists::{is_fault, judge, lines_of, sort, sort_into, states, UNTOUCHED};
 use both::Calls;
 use independent::book::Book;
-use made::{bracket_lines, ladder, ladder_lines, lengthened};
+use made::{bracket_lines, highly_numbered, ladder, ladder_lines, lengthened};
 use purlquartz::*;
 use random::books::{breakable, breaking_book, medium_book, small_book};
 use random::grammars::long_book;
-use random::lists::{covering, encode_list, line, lines, list_of, varied, Line};
+use random::lists::{
+    all_with_article, covering, encode_list, line, lines, list_of, numbered, varied, with_articles,
+    Line,
+};
 use random::{every_order, Random};
 use shipped::{shipped, SHIPPED};
 
@@ -50,18 +53,19 @@ fn first_descent(numbers: &[usize]) -> Option<usize> {
 
 fn every_order_of_brackets_list(calls: &Calls) {
     let book = shipped("bracket");
-    let lines = bracket_lines();
-    let sorted = encode_list(&lines);
     let orders = every_order(6);
     assert_eq!(orders.len(), 720);
-    for order in orders {
-        let given = list_of(&lines, &order);
-        let judgement = match first_descent(&order) {
-            Some(entry) => Judgement::OutOfOrder { entry },
-            None => Judgement::Complete,
-        };
-        assert_eq!(judge(calls, &book, &given), judgement);
-        assert_eq!(sort(calls, &book, &given), Ok(sorted.clone()));
+    for lines in [bracket_lines(), numbered(bracket_lines())] {
+        let sorted = encode_list(&lines);
+        for order in &orders {
+            let given = list_of(&lines, order);
+            let judgement = match first_descent(order) {
+                Some(entry) => Judgement::OutOfOrder { entry },
+                None => Judgement::Complete,
+            };
+            assert_eq!(judge(calls, &book, &given), judgement);
+            assert_eq!(sort(calls, &book, &given), Ok(sorted.clone()));
+        }
     }
 }
 
@@ -196,7 +200,7 @@ fn no_entry_and_one(calls: &Calls) {
 
 fn every_state_of_128(calls: &Calls) {
     let book = ladder();
-    let lines = ladder_lines();
+    let lines = numbered(ladder_lines());
     let sorted = encode_list(&lines);
     assert_eq!(judge(calls, &book, &sorted), Judgement::Complete);
     let sorts = |given: &[Line], entry| {
@@ -261,12 +265,12 @@ fn faults_among_128(calls: &Calls) {
     assert_eq!(sort(calls, &book, &encode_list(&given)), Ok(sorted));
 }
 
-/// 128 entries of 1,000 symbols.
+/// 128 entries of 1,000 symbols, with article numbers of three bytes.
 fn longest_list(calls: &Calls) {
     let book = ladder();
-    let mut lines = lengthened(ladder_lines(), 1_000);
+    let mut lines = highly_numbered(lengthened(ladder_lines(), 1_000));
     let sorted = encode_list(&lines);
-    assert_eq!(sorted.len(), 2 + 128 * 1_003);
+    assert_eq!(sorted.len(), MOST_LIST_BYTES);
     assert_eq!(judge(calls, &book, &sorted), Judgement::Complete);
     Random::new(41).shuffle(&mut lines);
     let given = encode_list(&lines);
@@ -286,31 +290,26 @@ fn refused_in_order(calls: &Calls) {
     };
     let list = encode_list(&bracket_lines());
     let longer = [&list[..], &[0]].concat();
-    refused(&cells[..38], &list, 21, 1, 38);
+    refused(&cells[..38], &list, 27, 1, 38);
     refused(&cells[..38], &longer, 0, 1, 38);
     refused(&[&cells[..], &[0]].concat(), &[], 0, 6, 39);
     for room in [0, 99] {
-        refused(&cells, &[], room, 1, 0);
-        refused(&cells, &list[..20], room, 1, 20);
-        refused(&cells, &[0x80, 0], room, 2, 0);
-        refused(&cells, &[0x81, 1], room, 9, 0);
-        refused(&cells, &[1, 0xe9, 7], room, 8, 1);
-        refused(&cells, &[1, 1, 4, 0], room, 7, 2);
-        refused(&cells, &[1, 1, 0, 0], room, 7, 2);
-        refused(&cells, &[1, 0, 4], room, 11, 2);
-        refused(&cells, &longer, room, 6, 21);
-        // The first entry is passed; in the second list the second repeats the first.
-        refused(&cells, &[2, 0, 1, 0, 4], room, 11, 4);
-        refused(&cells, &[2, 0, 0, 0, 0, 0], room, 6, 5);
+        refused(&cells, &list[..25], room, 1, 25);
+        refused(&cells, &list[..26], room, 1, 26);
+        refused(&cells, &longer, room, 6, 27);
+        for (list, number, place) in made::REFUSED_LISTS {
+            refused(&cells, list, room, number, place);
+        }
     }
-    for room in [0, 1, 20] {
+    for room in [0, 1, 26] {
         refused(&cells, &list, room, 12, 0);
     }
     refused(&cells, &[0], 0, 12, 0);
     let fault = |list: &[u8]| sort_into(calls, &cells, list, 0).0;
-    assert_eq!(fault(&[2, 0, 0, 0, 0]), Ok(Sorted::Repeat { entry: 1 }));
+    let repeat = Sorted::Repeat { entry: 1 };
+    assert_eq!(fault(&[2, 0, 0, 0, 0, 0, 0]), Ok(repeat));
     assert!(matches!(
-        fault(&[1, 0, 1]),
+        fault(&[1, 0, 1, 0]),
         Ok(Sorted::Wrong { entry: 0, .. })
     ));
 }
@@ -339,7 +338,7 @@ fn content(calls: &Calls, book: &Book, list: &[u8]) -> Vec<Line> {
     lines
 }
 
-/// What holds of every list, be it sorted or not.
+/// What holds of every list, be it sorted or not, whatever its article numbers.
 fn laws(calls: &Calls, random: &mut Random, tally: &mut Tally, book: &Book, mut lines: Vec<Line>) {
     let list = encode_list(&lines);
     let judgement = judge(calls, book, &list);
@@ -359,6 +358,10 @@ fn laws(calls: &Calls, random: &mut Random, tally: &mut Tally, book: &Book, mut 
             tally.wrong += usize::from(matches!(fault, Sorted::Wrong { .. }));
         }
     }
+    let others = encode_list(&with_articles(random, lines.clone()));
+    assert_eq!(judge(calls, book, &others), judgement);
+    let [one, other] = [&list, &others].map(|list| sorted_lines(calls, book, list));
+    assert_eq!(one, other);
     for _ in 0..3 {
         random.shuffle(&mut lines);
         let shuffled = sort(calls, book, &encode_list(&lines));
@@ -367,6 +370,12 @@ fn laws(calls: &Calls, random: &mut Random, tally: &mut Tally, book: &Book, mut 
             Err(_) => assert!(shuffled.is_err()),
         }
     }
+}
+
+/// The lines of a list in state order, but for their article numbers, or the fault.
+fn sorted_lines(calls: &Calls, book: &Book, list: &[u8]) -> Result<Vec<Line>, Sorted> {
+    let sorted = sort(calls, book, list)?;
+    Ok(all_with_article(&lines_of(calls, book, &sorted), 0))
 }
 
 /// The same entries, in order; without a fault; and sorting again changes nothing.

@@ -17,6 +17,7 @@ mod shipped;
 use both::Calls;
 use independent::book::{Action, Book};
 use independent::calls::map_of;
+use independent::numbers::encoded;
 use made::{after, doubling, grammar_book, growing, hand_book, shifted, thousand};
 use purlquartz::certificate::{make, Certificate};
 use purlquartz::*;
@@ -29,6 +30,9 @@ on_both! {
     bracket_with_one_claim_off
     refused_rows
     refused_sentences
+    refused_lengths
+    refused_symbols
+    wide_numbers
     refused_in_order
     no_sentence_over_1000
     other_sentences
@@ -231,22 +235,6 @@ fn refused_sentences(calls: &Calls) {
     // Within a number, which then begins where it stops.
     refused_bytes(calls, 45, 1, &[0x83], 1, 45);
     refused_bytes(calls, 45, 1, &[0x83, 0x80], 1, 45);
-    // The length: padded, with a third top bit, over 65,535, over 1,000.
-    refused_bytes(calls, 0, 1, &[0x80, 0], 2, 0);
-    refused_bytes(calls, 42, 1, &[0x83, 0], 2, 42);
-    refused_bytes(calls, 42, 1, &[0x83, 0x80, 0], 2, 42);
-    refused_bytes(calls, 42, 1, &[0x80, 0x80, 0x80], 2, 42);
-    refused_bytes(calls, 42, 1, &[0x80, 0x80, 0x04], 2, 42);
-    refused_bytes(calls, 42, 1, &[0xe9, 0x07], 8, 42);
-    refused_bytes(calls, 0, 1, &[0xff, 0xff, 0x03], 8, 0);
-    // A symbol likewise, or 0, or T or more.
-    refused_bytes(calls, 5, 1, &[0x81, 0], 2, 5);
-    refused_bytes(calls, 45, 1, &[0x80, 0x80, 0x04], 2, 45);
-    for symbol in [0, 4, 127] {
-        refused_bytes(calls, 5, 1, &[symbol], 7, 5);
-        refused_bytes(calls, 45, 1, &[symbol], 7, 45);
-    }
-    refused_bytes(calls, 45, 1, &[0xff, 0xff, 0x03], 7, 45);
     // Something follows, be it a number or not.
     for more in [&[0][..], &[0x80], &[1, 1]] {
         refused_bytes(calls, 46, 0, more, 6, 46);
@@ -261,6 +249,50 @@ fn refused_sentences(calls: &Calls) {
     certificate.sentences.splice(42..46, whole);
     let short = fault(Condition::Sentences, 119);
     assert_eq!(check(calls, &book, &certificate), Ok(short));
+}
+
+/// Padded, with a third top bit, or over 1,000: the first length, and the last.
+fn refused_lengths(calls: &Calls) {
+    for at in [0, 42] {
+        for bad in [&[0x83, 0][..], &[0x83, 0x80, 0], &[0x80, 0x80, 0x80]] {
+            refused_bytes(calls, at, 1, bad, 2, at);
+        }
+        for value in [1_001, 65_535, 65_536, 2_097_151] {
+            refused_bytes(calls, at, 1, &encoded::<u32>(&[value]), 8, at);
+        }
+    }
+}
+
+/// Padded, with a third top bit, 0, or T or more: the first symbol, and the last.
+fn refused_symbols(calls: &Calls) {
+    for at in [5, 45] {
+        for bad in [&[0x81, 0][..], &[0x81, 0x80, 0], &[0x83, 0x80, 0x80]] {
+            refused_bytes(calls, at, 1, bad, 2, at);
+        }
+        for value in [0, 4, 127, 65_535, 65_536, 2_097_151] {
+            refused_bytes(calls, at, 1, &encoded::<u32>(&[value]), 7, at);
+        }
+    }
+}
+
+/// Any number of the sentences, over 65,535 by its upper bits alone: a length, or else a symbol.
+fn wide_numbers(calls: &Calls) {
+    let (_, good) = bracket();
+    let pieces = good.pairs.into_iter().filter(|&claim| claim < LONG);
+    let is_length = pieces.flat_map(|claim| {
+        let symbols = [false].repeat(claim.into());
+        [vec![true], symbols].concat()
+    });
+    let mut count = 0;
+    for (at, is_length) in is_length.enumerate() {
+        let number = if is_length { 8 } else { 7 };
+        for more in [1, 2, 16, 31] {
+            let value = u32::from(good.sentences[at]) + 65_536 * more;
+            refused_bytes(calls, at, 1, &encoded(&[value]), number, at);
+        }
+        count += 1;
+    }
+    assert_eq!(count, good.sentences.len());
 }
 
 /// The book's refusals come first, then those of the crossings, the pairs and the sentences; every

@@ -1,4 +1,5 @@
 // Lists of the second finder's sentences, which the library judges. A list has an entry for each state that fails, in state order, but for one that is left out.
+// Their article numbers differ from list to list, which no judgement looks at.
 ghost use Prim.Native.Nat.{_+_, _≤_, _<_};
 use crate::pops::UNREACHED;
 use crate::tables;
@@ -17,6 +18,34 @@ const NO_PAIR: usize = 256;
 pub const NO_STATE: usize = 32;
 
 const FAULT: usize = 65535;
+
+// 0, 127, 128, 16,383, 16,384, 65,535, 65,536 and 2,097,151, each with zeros after it where it has fewer than three bytes.
+const ARTICLES: [u8; 24] = [
+    0,
+    0,
+    0,
+    127,
+    0,
+    0,
+    128,
+    1,
+    0,
+    255,
+    127,
+    0,
+    128,
+    128,
+    1,
+    255,
+    255,
+    3,
+    128,
+    128,
+    4,
+    255,
+    255,
+    127,
+];
 
 // The first pair of state q that has such a sentence.
 fn pair_of(least: &[u16; 256], q: usize) -> usize
@@ -78,7 +107,31 @@ fn put_symbols(words: &[u8; 262144], start: usize, n: usize, list: &mut [u8; ROO
     }
 }
 
-// The entry of state q: length, symbols, lookahead. Answers the place after it.
+// How many bytes article number k has.
+fn article_size(k: usize) -> usize
+    ensures { λ r. ⌜ r ≤ 3 ⌝ }
+{
+    if k < 2 {
+        return 1;
+    }
+    if k < 4 {
+        return 2;
+    }
+    3
+}
+
+// Article number k. Answers the place after it; a zero from there on is written over by the next entry, or is not of the list.
+fn put_article(list: &mut [u8; ROOM], at: usize, k: usize) -> usize
+    requires { ⌜ (at ≤ 3910) × (k < 8) ⌝ }
+    ensures { λ r. ⌜ r ≤ at + 3 ⌝ }
+{
+    put(list, at, ARTICLES[3 * k]);
+    put(list, at + 1, ARTICLES[3 * k + 1]);
+    put(list, at + 2, ARTICLES[3 * k + 2]);
+    at + article_size(k)
+}
+
+// The entry of state q: length, symbols, lookahead, article number. Answers the place after it.
 fn put_entry(
     least: &[u16; 256],
     words: &[u8; 262144],
@@ -88,7 +141,7 @@ fn put_entry(
     at: usize,
 ) -> usize
     requires { ⌜ (q < 32) × (at ≤ 3800) ⌝ }
-    ensures { λ r. ⌜ r ≤ at + 102 ⌝ }
+    ensures { λ r. ⌜ r ≤ at + 105 ⌝ }
 {
     let k = entry_of(least, out, q);
     if k >= NO_PAIR {
@@ -98,7 +151,7 @@ fn put_entry(
     put(list, at, n as u8);
     put_symbols(words, k * 1024, n, list, at + 1);
     put(list, at + 1 + n, (k % 8) as u8);
-    at + 2 + n
+    put_article(list, at + 2 + n, (q + out % 8) % 8)
 }
 
 fn count(least: &[u16; 256], out: usize) -> u8

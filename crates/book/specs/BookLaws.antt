@@ -106,7 +106,7 @@ pub record Headed (source : ℕ → Number) (at : ℕ) (head : List ℕ) : Type 
   pub five : length head ≡ 5
   pub small : Small (sizesOf head)
 
-headed-read : {source : ℕ → Number} {at : ℕ} {head : List ℕ} → headIn source ≡ read head at → Headed source at head
+pub headed-read : {source : ℕ → Number} {at : ℕ} {head : List ℕ} → headIn source ≡ read head at → Headed source at head
 headed-read {source} {at} {head} e = record { is = e; five = head-length source head at e; small = head-small source head at e }
 
 -- it is the first five numbers, which stand alone where they were written over five cells

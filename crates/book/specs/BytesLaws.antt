@@ -5,7 +5,7 @@ use Prim.Native.Nat.{ℕ, _+_, _*_, _-_, _≤_, _<_}
 use native.Mathlib.Numerals.{add-one}
 use native.Mathlib.Omega.{arith}
 use lib.ListN.{length, getD, take, drop, set, length-append, take-append-drop}
-use lib.Seq.{sets, take-suc, take-all}
+use lib.Seq.{sets, take-suc, take-all, getD-append-seam}
 use Rattle.number.specs.Lent.{over}
 use Rattle.number.specs.LentLaws.{over-more}
 use Rattle.number.specs.Number.{written}
@@ -36,6 +36,12 @@ module _ {source : ℕ → Number} {n : ℕ} {lent : List ℕ} where
     front = rw (d .front, ← d .count) (over-more (d .done) (v ∷ []) lent (omega (arith, d .count)));
     left = rw append-assoc (d .left ∙ ap (λ (r : List ℕ). d .done ++ r) (values-more source n i at v next h e));
   }
+
+  -- the next number is one of those
+  pub decoded-next : {now : List ℕ} {i at v : ℕ} {next : Cursor} → Decoded source n lent now i at → i < n → source at ≡ Value v next → getD (values source n 0) i 0 ≡ v
+  decoded-next {now} {i} {at} {v} {next} d h e =
+      ap (λ (l : List ℕ). getD l i 0) (d .left)
+      ∙ rw (values-more source n i at v next h e) (ap (λ (k : ℕ). getD (d .done ++ (v ∷ values source (n - (i + 1)) (next .at))) k 0) (sym (d .count)) ∙ getD-append-seam (d .done) v (values source (n - (i + 1)) (next .at)) 0)
 
   -- the numbers so far are all
   all : {now : List ℕ} {i at : ℕ} → (d : Decoded source n lent now i at) → values source (n - i) at ≡ [] → now ≡ over (values source n 0) lent

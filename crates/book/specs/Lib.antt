@@ -16,3 +16,4 @@ pub mod RowLaws
 pub mod SeenLaws
 pub mod Tables
 pub mod TablesLaws
+pub mod WidthLaws

@@ -36,19 +36,23 @@ actions-few d h = mul-small (d .s) 128 (d .t) 32 (h .states) (h .terminals)
 pub gotos-few : (d : Sizes) → Small d → d .s * d .n ≤ 4096
 gotos-few d h = mul-small (d .s) 128 (d .n) 32 (h .states) (h .nonterminals)
 
--- that no part is too long to be counted
+-- that no part is too long to be counted, and no number of one too large for a cell
 pub record Few (d : Sizes) : Type 0 where
   pub terminals : d .t ≤ 32
+  pub nonterminals : d .n ≤ 32
+  pub states : d .s ≤ 128
   pub productions : d .p ≤ 128
   pub actions : d .s * d .t ≤ 4096
   pub gotos : d .s * d .n ≤ 4096
 
 pub few : {d : Sizes} → Small d → Few d
-few {d} h = record { terminals = h .terminals; productions = h .productions; actions = actions-few d h; gotos = gotos-few d h }
+few {d} h =
+    record { terminals = h .terminals; nonterminals = h .nonterminals; states = h .states; productions = h .productions; actions = actions-few d h; gotos = gotos-few d h }
 
 -- which holds of no sizes
 pub few-none : Few (record { form = 0; t = 0; n = 0; s = 0; p = 0 })
-few-none = record { terminals = omega arith; productions = omega arith; actions = omega arith; gotos = omega arith }
+few-none =
+    record { terminals = omega arith; nonterminals = omega arith; states = omega arith; productions = omega arith; actions = omega arith; gotos = omega arith }
 
 -- the refusal of v as number i of its part, where it is known what is there already
 abbrev pub faultAmong : Sizes → Part → ℕ → (ℕ → Bool) → ℕ → ℕ

@@ -126,7 +126,7 @@ pub past : (bytes : List ℕ) (at : ℕ) (front rest : List ℕ) → drop at byt
 past bytes at front rest e = rw (← drop-drop, e, drop-append-seam)
 
 -- a number is read where it is written
-pub number-written : (bytes : List ℕ) (at v : ℕ) (rest : List ℕ) → v < 65536 → drop at bytes ≡ written v ++ rest → numberAt bytes at ≡ value v (at + length (written v))
+pub number-written : (bytes : List ℕ) (at v : ℕ) (rest : List ℕ) → v < 2097152 → drop at bytes ≡ written v ++ rest → numberAt bytes at ≡ value v (at + length (written v))
 unfolding numberAt
 number-written bytes at v rest h e = rw e (first-written at v rest h)
 
@@ -135,23 +135,18 @@ bytes-reads : (bytes : List ℕ) (at : ℕ) (vs : List ℕ) → Cells vs → dro
 bytes-reads bytes at [] small e = rw add-zero none
 bytes-reads bytes at (v ∷ vs) small e =
     rw (length-append, ← add-assoc)
-    (more (record { at = at + length (written v) }) (number-written bytes at v (bytesOf vs) (small 0) e)
+    (more (record { at = at + length (written v) }) (number-written bytes at v (bytesOf vs) (omega (arith, small 0)) e)
     (bytes-reads bytes (at + length (written v)) vs (λ i. small (suc i)) (past bytes at (written v) (bytesOf vs) e)))
-
-cells-cons : (v : ℕ) (vs : List ℕ) → v < 65536 → Cells vs → Cells (v ∷ vs)
-cells-cons v vs h c zero = h
-cells-cons v vs h c (suc i) = c i
 
 -- .. and no others
 reads-bytes : {at next : ℕ} {vs : List ℕ} (bytes : List ℕ) → Bytes bytes → Reads (numberAt bytes) at vs next
-    → (drop at bytes ≡ bytesOf vs ++ drop next bytes) × Cells vs
+    → drop at bytes ≡ bytesOf vs ++ drop next bytes
 unfolding numberAt
-reads-bytes bytes b none = (refl, λ i. omega arith)
+reads-bytes bytes b none = refl
 reads-bytes {at} {next} bytes b (more {v} {vs} c f r) =
     let s = first-stands at (drop at bytes) v (c .at) (λ i. rw getD-drop (b (at + i))) f in
-    let (p, q) = reads-bytes bytes b r in
-    let rest : s .rest ≡ bytesOf vs ++ drop next bytes = sym (past bytes at (written v) (s .rest) (s .whole)) ∙ rw (s .after) at p in
-    (s .whole ∙ rw (rest, append-assoc), cells-cons v vs (s .small) q)
+    let rest : s .rest ≡ bytesOf vs ++ drop next bytes = sym (past bytes at (written v) (s .rest) (s .whole)) ∙ rw (s .after) at (reads-bytes bytes b r) in
+    s .whole ∙ rw (rest, append-assoc)
 
 -- ---- the two laws
 -- reading what writing makes of valid cells gives those cells
@@ -167,9 +162,8 @@ unfolding ofCells ofBytes
 written-read bytes cells next b e =
     let r = book-reads (numberAt bytes) (length bytes) cells next e in
     let w = book-whole (numberAt bytes) (length bytes) cells next e in
-    let (p, q) = reads-bytes bytes b r in
     let end : drop next bytes ≡ [] = drop-of-length-le bytes (w .closed) in
-    let all : bytes ≡ bytesOf cells = p ∙ rw (end, append-nil) in
+    let all : bytes ≡ bytesOf cells = reads-bytes bytes b r ∙ rw (end, append-nil) in
     let i = rw zero-add at (cells-reads cells 0 cells refl (omega arith)) in
     (sym all, book-other (numberAt bytes) (cellAt cells) (length bytes) (length cells) cells next (length cells) e i (omega arith))
 

@@ -5,6 +5,7 @@ ghost use lib.ListN.{length};
 ghost use Rattle.number.specs.Lent.{over};
 ghost use Rattle.number.specs.Number.{numberAt};
 ghost use Rattle.book.specs.Book.{ofBytes, checked, reading};
+ghost use Rattle.book.specs.RoundTripLaws.{Cells};
 ghost use Rattle.book.specs.RowLaws.{values};
 use crate::Checked;
 use crate::Source;
@@ -21,6 +22,7 @@ use number::Refusal;
 // Decodes n numbers into the first n cells, or as many as are well formed.
 fn decode_row(bytes: &[u8], cells: &mut [u16], n: usize)
     requires { ⌜ n ≤ length (now cells) ⌝ }
+    requires { ⌜ Cells (values (numberAt (now bytes)) n 0) ⌝ }
     ensures { λ _. ⌜ now (cells .exit) ≡ over (values (numberAt (now (bytes .entry))) n 0) (now (cells .entry)) ⌝ }
 {
     let mut at: usize = 0;
@@ -29,7 +31,7 @@ fn decode_row(bytes: &[u8], cells: &mut [u16], n: usize)
         let Number::Value(v, next) = (Cursor { at }).read(bytes) else {
             return;
         };
-        cells[i] = v;
+        cells[i] = v as u16;
         at = next.at;
         i += 1;
     }

@@ -36,7 +36,7 @@ fn byte_count(cells: &[u16]) -> usize
     let mut n: usize = 0;
     let mut i: usize = 0;
     while i < cells.len() {
-        n += number::width(cells[i]);
+        n += number::width(cells[i] as u32);
         i += 1;
     }
     n
@@ -50,7 +50,7 @@ fn encode_row(cells: &[u16], bytes: &mut [u8])
     let mut at: usize = 0;
     let mut i: usize = 0;
     while i < cells.len() {
-        at = number::write(cells[i], bytes, at);
+        at = number::write(cells[i] as u32, bytes, at);
         i += 1;
     }
 }

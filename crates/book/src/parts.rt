@@ -20,7 +20,7 @@ fn cell_at(cells: &[u16], i: usize) -> Number
     ensures { λ r. ⌜ r ≡ cellAt (now (cells .entry)) i ⌝ }
 {
     if i < cells.len() {
-        return Number::Value(cells[i], Cursor { at: i + 1 });
+        return Number::Value(cells[i] as u32, Cursor { at: i + 1 });
     }
     Number::Refused(Refusal {
         number: 1,
@@ -38,7 +38,7 @@ fn number_at(source: Source, bytes: &[u8], cells: &[u16], at: usize) -> Number
 }
 
 // The set of the ranks seen, with v in it if it is a rank.
-fn mark(part: Part, ranks: u32, v: u16) -> u32
+fn mark(part: Part, ranks: u32, v: u32) -> u32
     ensures { λ r. ⌜ r ≡ marked part ranks v ⌝ }
 {
     match part {

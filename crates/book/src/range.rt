@@ -19,9 +19,9 @@ use number::Number;
 use number::Refusal;
 use sets::contains;
 
-const LOWEST: [u16; 5] = [1, 1, 0, 1, 0];
+const LOWEST: [u32; 5] = [1, 1, 0, 1, 0];
 
-const HIGHEST: [u16; 5] = [2, 32, 32, 128, 128];
+const HIGHEST: [u32; 5] = [2, 32, 32, 128, 128];
 
 // How many ranks a book has: in form 1 none.
 pub fn rank_count(d: Sizes) -> usize
@@ -52,11 +52,15 @@ pub fn body_length(d: Sizes) -> usize
     2 * d.p + rank_count(d) + d.s * d.t + d.s * d.n
 }
 
-// Whether the cell's action may stand under the terminal t.
-fn action_allowed(d: Sizes, t: usize, cell: u16) -> bool
-    ensures { λ r. ⌜ r ≡ allowed d t (actionOf cell) ⌝ }
+// Whether the action that v says may stand under the terminal t. Over 65,535 it would name a state or production that no book has.
+fn action_allowed(d: Sizes, t: usize, v: u32) -> bool
+    requires { ⌜ Few d ⌝ }
+    ensures { λ r. ⌜ r ≡ allowed d t (actionOf v) ⌝ }
 {
-    match decode(cell) {
+    if v > 65535 {
+        return false;
+    }
+    match decode(v as u16) {
         Action::Error => true,
         Action::Accept => t == 0,
         Action::Shift(s) => {
@@ -70,8 +74,8 @@ fn action_allowed(d: Sizes, t: usize, cell: u16) -> bool
 }
 
 // Whether v may stand as number i of a part, of which the ranks before it are a set.
-fn in_range(d: Sizes, part: Part, i: usize, v: u16, ranks: u32) -> bool
-    requires { ⌜ (i < partLength d part) × (d .t ≤ 32) ⌝ }
+fn in_range(d: Sizes, part: Part, i: usize, v: u32, ranks: u32) -> bool
+    requires { ⌜ (i < partLength d part) × Few d ⌝ }
     ensures { λ r. ⌜ r ≡ fits d part i (member ranks v) v ⌝ }
 {
     match part {
@@ -113,7 +117,7 @@ fn fault_number(part: Part, i: usize) -> u8
 
 // Number i of a part, as it was found at a place, or its refusal.
 pub fn admit(found: Number, d: Sizes, part: Part, i: usize, at: usize, ranks: u32) -> Number
-    requires { ⌜ (i < partLength d part) × (d .t ≤ 32) ⌝ }
+    requires { ⌜ (i < partLength d part) × Few d ⌝ }
     ensures { λ r. ⌜ r ≡ admitted (faultAmong d part i (member ranks)) at found ⌝ }
 {
     let Number::Value(v, _) = found else {

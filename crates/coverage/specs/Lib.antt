@@ -1,3 +1,5 @@
-pub mod UnionLaws
-pub mod JoiningLaws
 pub mod CoverageLaws
+pub mod Examples
+pub mod ExamplesLaws
+pub mod JoiningLaws
+pub mod UnionLaws

@@ -4,21 +4,22 @@ use Rattle.book.specs.Book.{bytesOf}
 use Rattle.lists.specs.Entry.{sentence}
 use Rattle.lists.specs.declared.Entry.{Entry}
 
--- an entry by what it says: its sentence and its lookahead
+-- an entry by what it says: its sentence, its lookahead and its article number
 pub record Item : Type 0 where
   pub symbols : List ℕ
   pub lookahead : ℕ
+  pub article : ℕ
 
 abbrev pub itemOf : List ℕ → Entry → Item
-itemOf bytes e = record { symbols = sentence bytes e; lookahead = e .lookahead }
+itemOf bytes e = record { symbols = sentence bytes e; lookahead = e .lookahead; article = e .article }
 
 -- what the entries of a list say, in the list's order
 abbrev pub items : List ℕ → List Entry → List Item
 items bytes es = map (itemOf bytes) es
 
--- 'for each its length, symbols and lookahead'
+-- 'for each its length, symbols and lookahead', and by request 8 its 'article number after its lookahead'
 abbrev pub itemNumbers : Item → List ℕ
-itemNumbers x = (length (x .symbols) ∷ x .symbols) ++ (x .lookahead ∷ [])
+itemNumbers x = (length (x .symbols) ∷ x .symbols) ++ (x .lookahead ∷ x .article ∷ [])
 
 unfoldable pub numbersOf : List Item → List ℕ
 numbersOf [] = []

@@ -60,10 +60,10 @@ fn put_list(
     let Fit::Left(left, count) = measure(first, places, second, others, states, out.len()) else {
         return too_short();
     };
-    if left < width(count) {
+    if left < width(count as u32) {
         return too_short();
     }
-    let start = write(count, out, 0);
+    let start = write(count as u32, out, 0);
     Joined::Count(put_pieces(first, places, second, others, states, out, start))
 }
 

@@ -24,22 +24,29 @@ symbolRow t bytes start len = row (numberAt bytes) (symbolFault t) len [] start
 abbrev pub lookaheadFault : ℕ → ℕ → ℕ
 lookaheadFault t = outside 0 t 11
 
--- 'for each its length, symbols and lookahead', each number by 1, 2, its range, and so '8 before 7'. The lookahead ends the entry
-abbrev pub entryEnded : ℕ → ℕ → Number → Step
-entryEnded start len (Number.Refused r) = Step.Refused r
-entryEnded start len (Number.Value z next) = Step.Found (record { start = start; len = len; lookahead = z }) next
+-- 'for each its length, symbols and lookahead', each number by 1, 2, its range, and so '8 before 7'. By request 8 'Each list entry gains the
+-- message's article number after its lookahead, 0 to 2,097,151': any number, and it ends the entry
+abbrev pub entryEnded : ℕ → ℕ → ℕ → Number → Step
+entryEnded start len z (Number.Refused r) = Step.Refused r
+entryEnded start len z (Number.Value article next) = Step.Found (record { start = start; len = len; lookahead = z; article = article }) next
+
+-- the lookahead was read
+abbrev pub afterLookahead : List ℕ → ℕ → ℕ → Number → Step
+afterLookahead bytes start len (Number.Refused r) = Step.Refused r
+afterLookahead bytes start len (Number.Value z next) = entryEnded start len z (numberAt bytes (next .at))
 
 -- the symbols were read
 abbrev pub afterSymbols : ℕ → List ℕ → ℕ → ℕ → Row → Step
 afterSymbols t bytes start len (Row.refused r) = Step.Refused r
-afterSymbols t bytes start len (Row.read symbols at) = entryEnded start len (admitted (lookaheadFault t) at (numberAt bytes at))
+afterSymbols t bytes start len (Row.read symbols at) = afterLookahead bytes start len (admitted (lookaheadFault t) at (numberAt bytes at))
 
 -- the length was read
 abbrev pub afterLength : ℕ → List ℕ → Number → Step
 afterLength t bytes (Number.Refused r) = Step.Refused r
 afterLength t bytes (Number.Value len next) = afterSymbols t bytes (next .at) len (symbolRow t bytes (next .at) len)
 
--- the entry at an offset of the bytes: where its symbols begin, how many, its lookahead, and the offset after it; or the refusal
+-- the entry at an offset of the bytes: where its symbols begin, how many, its lookahead, its article number, and the offset after it; or the
+-- refusal
 unfoldable pub entryAt : ℕ → List ℕ → ℕ → Step
 entryAt t bytes at = afterLength t bytes (admitted lengthFault at (numberAt bytes at))
 

@@ -20,7 +20,7 @@ use Rattle.book.specs.BookLaws.{ends-read, ends-refused}
 use Rattle.book.specs.CellsLaws.{row-segment}
 use Rattle.book.specs.RoundTripLaws.{past, number-written}
 use Rattle.book.specs.RowLaws.{ends, row-front, row-clean}
-use Rattle.lists.specs.Entry.{outside, lengthFault, symbolFault, symbolRow, entryAt, lookaheadFault, entryEnded, afterSymbols, part}
+use Rattle.lists.specs.Entry.{outside, lengthFault, symbolFault, symbolRow, entryAt, lookaheadFault, entryEnded, afterLookahead, afterSymbols, part}
 use Rattle.lists.specs.declared.Entry.{Entry}
 use Rattle.lists.specs.declared.Step.the-variants.{Found, Refused as StepRefused}
 
@@ -43,7 +43,7 @@ module _ (t : ℕ) (bytes : List ℕ) (start len : ℕ) where
   symbols-stop r e = rw (ends-refused (symbolRow t bytes start len) r e)
 
   pub symbols-on : (v : ℕ) (next : Cursor) → ends (symbolRow t bytes start len) ≡ Value v next
-      → entryEnded start len (admitted (lookaheadFault t) (next .at) (numberAt bytes (next .at))) ≡ afterSymbols t bytes start len (symbolRow t bytes start len)
+      → afterLookahead bytes start len (admitted (lookaheadFault t) (next .at) (numberAt bytes (next .at))) ≡ afterSymbols t bytes start len (symbolRow t bytes start len)
   symbols-on v next e = let (vs, f) = ends-read (symbolRow t bytes start len) v next e in rw f
 
 -- ---- ranges
@@ -90,8 +90,10 @@ pub record Parts (t : ℕ) (bytes : List ℕ) (at : ℕ) (e : Entry) (next : Cur
   pub symbols : List ℕ
   pub last : ℕ
   pub spelled : symbolRow t bytes (e .start) (e .len) ≡ read symbols last
-  pub looks : numberAt bytes last ≡ Value (e .lookahead) next
+  pub looked : Cursor
+  pub looks : numberAt bytes last ≡ Value (e .lookahead) looked
   pub below : e .lookahead < t
+  pub numbered : numberAt bytes (looked .at) ≡ Value (e .article) next
 
 faulty-not-found : (r : Refusal) (e : Entry) (next : Cursor) → StepRefused r ≡ Found e next → ⊥
 faulty-not-found r e next f = let z : _≡_ {A = ℕ} 0 1 = cc in omega arith
@@ -101,20 +103,26 @@ module _ (t : ℕ) (bytes : List ℕ) (at : ℕ) where
   unfolding entryAt
   entry-parts e next f = by-length (admitted lengthFault at (numberAt bytes at)) refl
     where
-      by-end : (len : ℕ) (c : Cursor) → admitted lengthFault at (numberAt bytes at) ≡ Value len c → (vs : List ℕ) (last : ℕ)
-          → symbolRow t bytes (c .at) len ≡ read vs last → (n : Number) → admitted (lookaheadFault t) last (numberAt bytes last) ≡ n
-          → entryEnded (c .at) len n ≡ Found e next → Parts t bytes at e next
-      by-end len c g vs last h (Refused r) i j = absurd (faulty-not-found r e next j)
-      by-end len c g vs last h (Value z d) i j =
+      by-article : (len : ℕ) (c : Cursor) → admitted lengthFault at (numberAt bytes at) ≡ Value len c → (vs : List ℕ) (last : ℕ)
+          → symbolRow t bytes (c .at) len ≡ read vs last → (z : ℕ) (d : Cursor) → admitted (lookaheadFault t) last (numberAt bytes last) ≡ Value z d
+          → (n : Number) → numberAt bytes (d .at) ≡ n → entryEnded (c .at) len z n ≡ Found e next → Parts t bytes at e next
+      by-article len c g vs last h z d i (Refused r) a j = absurd (faulty-not-found r e next j)
+      by-article len c g vs last h z d i (Value article b) a j =
           let (m, o) = admitted-found lengthFault at (numberAt bytes at) len c g in
           let (p, q) = admitted-found (lookaheadFault t) last (numberAt bytes last) z d i in
-          let k : _≡_ {A = Entry} (record { start = c .at; len = len; lookahead = z }) e = cc in
-          let l : d ≡ next = cc in
+          let k : _≡_ {A = Entry} (record { start = c .at; len = len; lookahead = z; article = article }) e = cc in
+          let l : b ≡ next = cc in
           let short = inside 0 1001 7 len o in
           let below = inside 0 t 10 z q in
-          let parts : Parts t bytes at (record { start = c .at; len = len; lookahead = z }) d =
-          record { begins = m; short = omega arith; symbols = vs; last = last; spelled = h; looks = p; below = below .1 } in
+          let parts : Parts t bytes at (record { start = c .at; len = len; lookahead = z; article = article }) b =
+          record { begins = m; short = omega arith; symbols = vs; last = last; spelled = h; looked = d; looks = p; below = below .1; numbered = a } in
           rw (k, l) at parts
+
+      by-end : (len : ℕ) (c : Cursor) → admitted lengthFault at (numberAt bytes at) ≡ Value len c → (vs : List ℕ) (last : ℕ)
+          → symbolRow t bytes (c .at) len ≡ read vs last → (n : Number) → admitted (lookaheadFault t) last (numberAt bytes last) ≡ n
+          → afterLookahead bytes (c .at) len n ≡ Found e next → Parts t bytes at e next
+      by-end len c g vs last h (Refused r) i j = absurd (faulty-not-found r e next j)
+      by-end len c g vs last h (Value z d) i j = by-article len c g vs last h z d i (numberAt bytes (d .at)) refl j
 
       by-symbols : (len : ℕ) (c : Cursor) → admitted lengthFault at (numberAt bytes at) ≡ Value len c → (w : Row) → symbolRow t bytes (c .at) len ≡ w
           → afterSymbols t bytes (c .at) len w ≡ Found e next → Parts t bytes at e next
@@ -135,26 +143,27 @@ module _ (t : ℕ) (bytes : List ℕ) (at : ℕ) where
       row-refault (numberAt bytes) (symbolFault t) (symbolFault u) wide (e .len) [] (e .start) (p .symbols) (p .last) (p .spelled) in
       let low : lengthFault (e .len) ≡ 0 = outside-none 0 1001 8 (e .len) (omega arith) (omega (arith, p .short)) in
       let look : lookaheadFault u (e .lookahead) ≡ 0 = outside-none 0 u 11 (e .lookahead) (omega arith) (omega (arith, p .below)) in
-      rw (p .begins, eq-eqb (lengthFault (e .len)) 0 low, row-of, p .looks, eq-eqb (lookaheadFault u (e .lookahead)) 0 look)
+      rw (p .begins, eq-eqb (lengthFault (e .len)) 0 low, row-of, p .looks, eq-eqb (lookaheadFault u (e .lookahead)) 0 look, p .numbered)
 
--- ---- a number that was read: how many bytes it took, and how small it can be then
-third-read : (at a b : ℕ) (s : List ℕ) (v next : ℕ) → third at a b s ≡ value v next → (128 ≤ v) × (next ≤ at + 2 + length s)
+-- ---- a number that was read: how many bytes it took, and how small and how large it can be then
+third-read : (at a b : ℕ) (s : List ℕ) (v next : ℕ) → third at a b s ≡ value v next
+    → (128 ≤ v) × (v < 2097152) × (next ≤ at + 2 + length s)
 unfolding third
 third-read at a b [] v next e = absurd (refused-not-value _ v next e)
-third-read at a b (c ∷ s) v next e = go (ℕ-discrete c 0) (decLt c 128) (decLt 65535 (a % 128 + 128 * (b % 128) + 16384 * c))
+third-read at a b (c ∷ s) v next e = go (ℕ-discrete c 0) (decLt c 128)
   where
-    go : Dec (c ≡ 0) → Dec (c < 128) → Dec (65535 < a % 128 + 128 * (b % 128) + 16384 * c) → (128 ≤ v) × (next ≤ at + 2 + length (c ∷ s))
-    go (yes z) d f = absurd (refused-not-value _ v next (simp tests at e))
-    go (no z) (no d) f = absurd (refused-not-value _ v next (simp tests at e))
-    go (no z) (yes d) (yes f) = absurd (refused-not-value _ v next (simp tests at e))
-    go (no z) (yes d) (no f) = let (i, j) = value-is (a % 128 + 128 * (b % 128) + 16384 * c) (at + 3) v next (simp tests at e) in omega arith
+    go : Dec (c ≡ 0) → Dec (c < 128) → (128 ≤ v) × (v < 2097152) × (next ≤ at + 2 + length (c ∷ s))
+    go (yes z) d = absurd (refused-not-value _ v next (simp tests at e))
+    go (no z) (no d) = absurd (refused-not-value _ v next (simp tests at e))
+    go (no z) (yes d) = let (i, j) = value-is (a % 128 + 128 * (b % 128) + 16384 * c) (at + 3) v next (simp tests at e) in omega arith
 
-second-read : (at a : ℕ) (s : List ℕ) (v next : ℕ) → second at a s ≡ value v next → (128 ≤ v) × (next ≤ at + 1 + length s)
+second-read : (at a : ℕ) (s : List ℕ) (v next : ℕ) → second at a s ≡ value v next
+    → (128 ≤ v) × (v < 2097152) × (next ≤ at + 1 + length s)
 unfolding second
 second-read at a [] v next e = absurd (refused-not-value _ v next e)
 second-read at a (b ∷ s) v next e = go (ℕ-discrete b 0) (decLt b 128)
   where
-    go : Dec (b ≡ 0) → Dec (b < 128) → (128 ≤ v) × (next ≤ at + 1 + length (b ∷ s))
+    go : Dec (b ≡ 0) → Dec (b < 128) → (128 ≤ v) × (v < 2097152) × (next ≤ at + 1 + length (b ∷ s))
     go (yes z) d = absurd (refused-not-value _ v next (simp tests at e))
     go (no z) (no d) = let h = third-read at a b s v next (simp tests at e) in omega arith
     go (no z) (yes d) = let (i, j) = value-is (a % 128 + 128 * b) (at + 2) v next (simp tests at e) in omega arith
@@ -168,26 +177,32 @@ one-byte bytes at v next h e = go (decLt at (length bytes)) (decLt (getD bytes a
     go (no l) d =
         let past : length bytes ≤ at = omega arith in
         absurd (refused-not-value _ v (next .at) (rw (drop-of-length-le bytes past) at e))
-    go (yes l) (no d) = let (big, within) = second-read at (getD bytes at 0) (drop (at + 1) bytes) v (next .at) (rw (byte-at bytes at l, le-ltb (getD bytes at 0) 128 (omega arith)) at e) in absurd (omega arith)
+    go (yes l) (no d) = let (big, small, within) = second-read at (getD bytes at 0) (drop (at + 1) bytes) v (next .at) (rw (byte-at bytes at l, le-ltb (getD bytes at 0) 128 (omega arith)) at e) in absurd (omega arith)
     go (yes l) (yes d) =
         let (i, j) = value-is (getD bytes at 0) (at + 1) v (next .at) (rw (byte-at bytes at l, lt-ltb (getD bytes at 0) 128 d) at e) in
         (l, sym i, sym j)
 
 -- ---- a number that was read ends within the bytes
-first-within : (at : ℕ) (s : List ℕ) (v next : ℕ) → first at s ≡ value v next → (next ≤ at + length s) × (1 ≤ length s)
+first-within : (at : ℕ) (s : List ℕ) (v next : ℕ) → first at s ≡ value v next
+    → (v < 2097152) × (next ≤ at + length s) × (1 ≤ length s)
 unfolding first
 first-within at [] v next e = absurd (refused-not-value _ v next e)
 first-within at (a ∷ s) v next e = go (decLt a 128)
   where
-    go : Dec (a < 128) → (next ≤ at + length (a ∷ s)) × (1 ≤ length (a ∷ s))
-    go (no d) = let h = second-read at a s v next (simp tests at e) in (omega arith, omega arith)
+    go : Dec (a < 128) → (v < 2097152) × (next ≤ at + length (a ∷ s)) × (1 ≤ length (a ∷ s))
+    go (no d) = let h = second-read at a s v next (simp tests at e) in (omega arith, omega arith, omega arith)
     go (yes d) =
         let (i, j) = value-is a (at + 1) v next (simp tests at e) in
-        (omega arith, omega arith)
+        (omega arith, omega arith, omega arith)
 
 pub number-within : (bytes : List ℕ) (at v next : ℕ) → numberAt bytes at ≡ value v next → next ≤ length bytes
 unfolding numberAt
-number-within bytes at v next e = let (h, i) = first-within at (drop at bytes) v next e in omega (arith, length-drop at bytes)
+number-within bytes at v next e = let (s, h, i) = first-within at (drop at bytes) v next e in omega (arith, length-drop at bytes)
+
+-- it is as small as one that is written
+pub number-small : (bytes : List ℕ) (at v next : ℕ) → numberAt bytes at ≡ value v next → v < 2097152
+unfolding numberAt
+number-small bytes at v next e = first-within at (drop at bytes) v next e .0
 
 -- ---- symbols that were read: 'from 1 to T - 1, one a byte', and so a part of the bytes
 pub record Symbols (t : ℕ) (bytes : List ℕ) (start len : ℕ) : Type 0 where

@@ -19,7 +19,7 @@ use Rattle.book.specs.Tables.{sizesOf}
 use Rattle.book.specs.declared.Part.{Part}
 use Rattle.book.specs.declared.Part.the-variants.{Head}
 use Rattle.book.specs.declared.Sizes.{Sizes}
-use Rattle.lists.specs.Entry.{lengthFault, symbolFault, symbolRow, lookaheadFault, entryEnded, afterSymbols, afterLength, entryAt}
+use Rattle.lists.specs.Entry.{lengthFault, symbolFault, symbolRow, lookaheadFault, entryEnded, afterLookahead, afterSymbols, afterLength, entryAt}
 use Rattle.lists.specs.List.{Listed, entries, refused, before as ahead, followed as onto, entriesAt, countFault, closed, afterCount, listOf, against, listIn}
 use Rattle.lists.specs.declared.Entry.{Entry}
 use Rattle.lists.specs.declared.Step.{Step}
@@ -39,7 +39,7 @@ unfolding third
 third-numbered at a b [] = omega arith
 third-numbered at a b (c ∷ s) =
     let n = a % 128 + 128 * (b % 128) + 16384 * c in
-    numbered-cond (eqb c 0 || leb 128 c || ltb 65535 n) (refusal 2 at) (value n (at + 3)) (omega arith) tt
+    numbered-cond (eqb c 0 || leb 128 c) (refusal 2 at) (value n (at + 3)) (omega arith) tt
 
 second-numbered : (at a : ℕ) (s : List ℕ) → Numbered (second at a s)
 unfolding second
@@ -130,9 +130,13 @@ entry-numbered : (t : ℕ) (bytes : List ℕ) (at : ℕ) → StepNumbered (entry
 unfolding entryAt
 entry-numbered t bytes at = by-length (admitted lengthFault at (numberAt bytes at)) (admitted-numbered lengthFault at (numberAt bytes at) (number-numbered bytes at))
   where
-    by-end : (start len : ℕ) (n : Number) → Numbered n → StepNumbered (entryEnded start len n)
+    by-article : (start len z : ℕ) (n : Number) → Numbered n → StepNumbered (entryEnded start len z n)
+    by-article start len z (Refused r) p = p
+    by-article start len z (Value article next) p = tt
+
+    by-end : (start len : ℕ) (n : Number) → Numbered n → StepNumbered (afterLookahead bytes start len n)
     by-end start len (Refused r) p = p
-    by-end start len (Value z next) p = tt
+    by-end start len (Value z next) p = by-article start len z (numberAt bytes (next .at)) (number-numbered bytes (next .at))
 
     by-symbols : (start len : ℕ) (w : Row) → RowNumbered w → StepNumbered (afterSymbols t bytes start len w)
     by-symbols start len (unread r) p = p

@@ -1,7 +1,8 @@
 // One entry of a list: read at an offset, and its sentence.
 ghost use mathlib.Core.Path.{_≡_};
 ghost use Rattle.book.specs.RowLaws.{ends};
-ghost use Rattle.lists.specs.Entry.{symbolRow, afterSymbols, entryAt, part};
+ghost use Rattle.number.specs.Number.{numberAt};
+ghost use Rattle.lists.specs.Entry.{symbolRow, entryEnded, afterSymbols, entryAt, part};
 use crate::Entry;
 use crate::Step;
 use crate::range::admit;
@@ -25,6 +26,24 @@ pub fn symbol_row(list: &[u8], start: usize, len: usize, t: usize) -> Number
     Number::Value(0, Cursor { at })
 }
 
+// The entry whose article number stands at an offset, from there on.
+fn after_lookahead(list: &[u8], start: usize, len: usize, lookahead: usize, at: usize) -> Step
+    ensures { λ r. ⌜ r ≡ entryEnded start len lookahead (numberAt (now (list .entry)) at) ⌝ }
+{
+    match (Cursor { at }).read(list) {
+        Number::Refused(r) => Step::Refused(r),
+        Number::Value(article, end) => Step::Found(
+            Entry {
+                start,
+                len,
+                lookahead,
+                article,
+            },
+            end,
+        ),
+    }
+}
+
 // The entry whose symbols begin at `start`, from there on.
 fn after_length(list: &[u8], start: usize, len: usize, t: usize) -> Step
     ensures { λ r. ⌜ r ≡ afterSymbols t (now (list .entry)) start len (symbolRow t (now (list .entry)) start len) ⌝ }
@@ -35,14 +54,10 @@ fn after_length(list: &[u8], start: usize, len: usize, t: usize) -> Step
             let at = next.at;
             match admit(Cursor { at }.read(list), 0, t, 11, at) {
                 Number::Refused(r) => Step::Refused(r),
-                Number::Value(z, end) => Step::Found(
-                    Entry {
-                        start,
-                        len,
-                        lookahead: z as usize,
-                    },
-                    end,
-                ),
+                Number::Value(z, end) => {
+                    let at = end.at;
+                    after_lookahead(list, start, len, z as usize, at)
+                }
             }
         }
     }

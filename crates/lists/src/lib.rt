@@ -19,11 +19,12 @@ pub use reading::next_entry;
 pub use reading::remaining;
 pub use reading::start;
 
-// One entry of a list: where its symbols begin, how many there are, and its lookahead.
+// One entry of a list: where its symbols begin, how many there are, its lookahead and its article number.
 pub struct Entry {
     pub start: usize,
     pub len: usize,
     pub lookahead: usize,
+    pub article: u32,
 }
 
 // The entry at an offset, with the offset after it.

@@ -1,33 +1,32 @@
 -- 'The longest book has 16,679 bytes': no book has more, nor more than 8,485 cells, and one has as many. Assumes nothing.
-use mathlib.Core.Bool.{Bool, true, cond, false≢true}
+use mathlib.Core.Bool.{Bool, true, cond}
 use mathlib.Core.List.{List, [], _∷_, _++_}
 use mathlib.Core.Path.{_≡_, refl, sym, _∙_, ap}
 use Prim.Native.Nat.{ℕ, zero, suc, _+_, _*_, _-_, _/_, _%_, _≤_, _<_}
 use native.Mathlib.Decide.{decLt, ℕ-discrete}
 use native.Mathlib.Nat.{zero-mul, suc-mul, mul-suc}
 use native.Mathlib.Omega.{arith}
-use borrow.Author.Tests.{lt-ltb, le-ltb, le-leb, eq-eqb, ne-eqb, ltb-true, leb-true}
+use borrow.Author.Tests.{lt-ltb, le-leb, eq-eqb, ne-eqb}
 use lib.Dec.{ltb, leb, eqb}
-use lib.ListN.{length, getD, take, drop, replicate, length-append, length-take, length-drop, length-replicate, getD-replicate, take-append-drop, List·getD-eq-default}
+use lib.ListN.{length, getD, take, drop, replicate, length-append, length-take, length-drop, length-replicate, getD-replicate, take-append-drop}
 use lib.Seq.{getD-drop, getD-take}
-use Rattle.number.specs.TestLaws.{tests}
 use Rattle.number.specs.Lent.{firsts}
 use Rattle.number.specs.Number.{written}
 use Rattle.number.specs.NumberLaws.{Bytes, written-one, written-two}
 use Rattle.book.specs.Action.{actionOf}
-use Rattle.book.specs.ActionLaws.{action-odd, code-action, codeOf}
+use Rattle.book.specs.ActionLaws.{action-odd}
 use Rattle.book.specs.Book.{read, body, ofBytes, ofCells, bytesOf, checked}
 use Rattle.book.specs.BookLaws.{checked-valid}
 use Rattle.book.specs.BytesLaws.{bytes-append}
 use Rattle.book.specs.CellsLaws.{Suits, Composed}
 use Rattle.book.specs.Range.{headHighest, partLength, allowed, among, fits}
-use Rattle.book.specs.RangeLaws.{actions-few, gotos-few, ranks-few, Small, head-range}
+use Rattle.book.specs.RangeLaws.{actions-few, gotos-few, ranks-few, Small, Few, few, head-range}
 use Rattle.book.specs.SeenLaws.{by-number-suit}
 use Rattle.book.specs.RoundTripLaws.{below-append, read-written, written-read, numbers-bytes}
 use Rattle.book.specs.Tables.{sizesOf}
 use Rattle.book.specs.TablesLaws.{IsBook, accepted-book, book-composed, composed-accepted}
-use Rattle.book.specs.declared.Action.{Action}
-use Rattle.book.specs.declared.Action.the-variants.{Error, Accept, Shift, Reduce}
+use Rattle.book.specs.WidthLaws.{production-narrow, rank-narrow, highest-wide, fits-wide, suits-wide, composed-wide}
+use Rattle.book.specs.declared.Action.the-variants.{Reduce}
 use Rattle.book.specs.declared.Checked.the-variants.{Valid}
 use Rattle.book.specs.declared.Part.{Part}
 use Rattle.book.specs.declared.Part.the-variants.{Head, Productions, Ranks, Actions, Gotos}
@@ -41,7 +40,7 @@ book-cells-most cells d e = let h = accepted-book cells d e in omega (arith, h .
 narrow : (n : ℕ) → n < 128 → length (written n) ≤ 1
 narrow n h = rw (written-one n h) (omega arith)
 
-wide : (n : ℕ) → n < 16384 → length (written n) ≤ 2
+pub wide : (n : ℕ) → n < 16384 → length (written n) ≤ 2
 wide n h = go (decLt n 128)
   where
     go : Dec (n < 128) → length (written n) ≤ 2
@@ -54,41 +53,6 @@ bytes-each b [] h = omega arith
 bytes-each b (v ∷ vs) h = rw (length-append, mul-suc) (omega (arith, h 0 (omega arith), bytes-each b vs (λ j l. h (suc j) (omega arith))))
 
 -- ---- the widths of a book's numbers
-action-wide : (d : Sizes) → Small d → (t v : ℕ) (x : Action) → allowed d t x ≡ true → codeOf x ≡ v → v < 16384
-unfolding allowed codeOf
-action-wide d h t v Error e f = omega arith
-action-wide d h t v Accept e f = omega arith
-action-wide d h t v (Shift s) e f = go (ℕ-discrete t 0)
-  where
-    go : Dec (t ≡ 0) → v < 16384
-    go (yes z) = absurd (false≢true (simp tests at e))
-    go (no z) = omega (arith, ltb-true s (d .s) (simp tests at e), h .states)
-action-wide d h t v (Reduce p) e f = omega (arith, ltb-true p (d .p) e, h .productions)
-
-production-narrow : (d : Sizes) → Small d → (i : ℕ) (there : Bool) (v : ℕ) → fits d Productions i there v ≡ true → v < 128
-unfolding fits
-production-narrow d h i there v e = go (ℕ-discrete (i % 2) 0)
-  where
-    go : Dec (i % 2 ≡ 0) → v < 128
-    go (yes z) = omega (arith, ltb-true v (d .n) (simp tests at e), h .nonterminals)
-    go (no z) = omega (arith, leb-true v 32 (simp tests at e))
-
-highest-wide : (j : ℕ) → getD headHighest j 0 < 16384
-highest-wide zero = omega arith
-highest-wide (suc zero) = omega arith
-highest-wide (suc (suc zero)) = omega arith
-highest-wide (suc (suc (suc zero))) = omega arith
-highest-wide (suc (suc (suc (suc zero)))) = omega arith
-highest-wide (suc (suc (suc (suc (suc j))))) = omega arith
-
-rank-narrow : (d : Sizes) → Small d → (i : ℕ) (there : Bool) (v : ℕ) → fits d Ranks i there v ≡ true → v < 128
-unfolding fits
-rank-narrow d h i there v e = go (decLt v (d .t))
-  where
-    go : Dec (v < d .t) → v < 128
-    go (yes l) = omega (arith, h .terminals)
-    go (no l) = absurd (false≢true (rw (le-ltb v (d .t) (omega arith)) at e))
-
 -- no number of a part is wider than so many bytes
 abbrev widthOf : Part → ℕ
 widthOf Head = 2
@@ -97,42 +61,29 @@ widthOf Ranks = 1
 widthOf Actions = 2
 widthOf Gotos = 2
 
-number-wide : (d : Sizes) → Small d → (part : Part) (i : ℕ) (there : Bool) (v : ℕ) → fits d part i there v ≡ true → (v < 16384) × (length (written v) ≤ widthOf part)
-unfolding fits
-number-wide d h Head i there v e = let k : v < 16384 = omega (arith, head-range d i there v e .1, highest-wide i) in (k, wide v k)
-number-wide d h Productions i there v e = let k = production-narrow d h i there v e in (omega arith, narrow v k)
-number-wide d h Ranks i there v e = let k = rank-narrow d h i there v e in (omega arith, narrow v k)
-number-wide d h Actions i there v e = let k = action-wide d h (i % d .t) v (actionOf v) e (code-action v) in (k, wide v k)
-number-wide d h Gotos i there v e = let k : v < 16384 = omega (arith, h .states, leb-true v (d .s) e) in (k, wide v k)
+number-bytes : (d : Sizes) → Few d → (part : Part) (i : ℕ) (there : Bool) (v : ℕ) → fits d part i there v ≡ true → length (written v) ≤ widthOf part
+number-bytes d h Head i there v e = wide v (fits-wide d h Head i there v e)
+number-bytes d h Productions i there v e = narrow v (production-narrow d h i there v e)
+number-bytes d h Ranks i there v e = narrow v (rank-narrow d h i there v e)
+number-bytes d h Actions i there v e = wide v (fits-wide d h Actions i there v e)
+number-bytes d h Gotos i there v e = wide v (fits-wide d h Gotos i there v e)
 
 -- ---- of parts
 abbrev bytesMost : Sizes → List Part → ℕ
 bytesMost d [] = 0
 bytesMost d (part ∷ more) = widthOf part * partLength d part + bytesMost d more
 
-composed-bytes : (d : Sizes) → Small d → (parts : List Part) (vs : List ℕ) → Composed d parts vs → length (bytesOf vs) ≤ bytesMost d parts
+composed-bytes : (d : Sizes) → Few d → (parts : List Part) (vs : List ℕ) → Composed d parts vs → length (bytesOf vs) ≤ bytesMost d parts
 composed-bytes d h [] vs c = rw c (omega arith)
 composed-bytes d h (part ∷ more) vs (front, back, both, (count, suits), c) =
-    let first = bytes-each (widthOf part) front (λ j l. number-wide d h part j _ _ (suits j (rw count at l)) .1) in
+    let first = bytes-each (widthOf part) front (λ j l. number-bytes d h part j _ _ (suits j (rw count at l))) in
     rw (both, bytes-append, length-append) (omega (arith, rw count at first, composed-bytes d h more back c))
-
-suits-wide : (d : Sizes) → Small d → (part : Part) (vs : List ℕ) → Suits d part vs → (i : ℕ) → getD vs i 0 < 16384
-suits-wide d h part vs (count, suits) i = go (decLt i (length vs))
-  where
-    go : Dec (i < length vs) → getD vs i 0 < 16384
-    go (yes l) = number-wide d h part i _ _ (suits i (rw count at l)) .0
-    go (no l) = let out : length vs ≤ i = omega arith in rw (List·getD-eq-default vs 0 out) (omega arith)
-
-composed-wide : (d : Sizes) → Small d → (parts : List Part) (vs : List ℕ) → Composed d parts vs → (i : ℕ) → getD vs i 0 < 16384
-composed-wide d h [] vs c i = rw c (omega arith)
-composed-wide d h (part ∷ more) vs (front, back, both, suits, c) i =
-    rw both (below-append 16384 front back (suits-wide d h part front suits) (composed-wide d h more back c) i)
 
 -- ---- of a book
 pub cell-wide : {d : Sizes} {cells : List ℕ} → IsBook d cells → (i : ℕ) → getD cells i 0 < 16384
 cell-wide {d} {cells} h i =
     let (head, rest, both, suits, c) = book-composed h in
-    rw both (below-append 16384 head rest (suits-wide d (h .small) Head head suits) (composed-wide d (h .small) body rest c) i)
+    rw both (below-append 16384 head rest (suits-wide d (few (h .small)) Head head suits) (composed-wide d (few (h .small)) body rest c) i)
 
 -- of the head the form, T and N take a byte each
 highest-narrow : (j : ℕ) → j < 3 → getD headHighest j 0 < 128
@@ -157,7 +108,7 @@ cells-bytes {d} {cells} h =
     let (head, rest, both, suits, c) = book-composed h in
     rw (both, bytes-append, length-append)
     (omega
-    (arith, head-bytes d head suits, composed-bytes d (h .small) body rest c, h .small .productions, h .small .terminals, ranks-few d, actions-few d (h .small), gotos-few d (h .small)))
+    (arith, head-bytes d head suits, composed-bytes d (few (h .small)) body rest c, h .small .productions, h .small .terminals, ranks-few d, actions-few d (h .small), gotos-few d (h .small)))
 
 -- ---- at most so many bytes
 pub book-bytes-most : (bytes : List ℕ) (d : Sizes) → Bytes bytes → checked (ofBytes bytes) ≡ Valid d → length bytes ≤ 16679

@@ -1,1 +1,1 @@
-// How long a book can be: laws alone.
+// How long a book and a list can be: laws alone.

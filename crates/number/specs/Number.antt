@@ -20,13 +20,13 @@ unfoldable pub written : ℕ → List ℕ
 written n = groups 3 n
 
 -- '1 it stops before a due number is complete, with no third byte there'
--- '2 a number is padded, has its third byte's top bit set, or is over 65,535'
+-- '2 a number is padded, has its third byte's top bit set'; by request 8 'the reader of a single number must take every three-byte value', and so
+-- '2 means badly formed only'
 -- the third byte, after a and b, of the number at the offset
 unfoldable pub third : ℕ → ℕ → ℕ → List ℕ → Number
 third at a b [] = refusal 1 at
 third at a b (c ∷ rest) =
-    let n = a % 128 + 128 * (b % 128) + 16384 * c in
-    cond (eqb c 0 || leb 128 c || ltb 65535 n) (refusal 2 at) (value n (at + 3))
+    cond (eqb c 0 || leb 128 c) (refusal 2 at) (value (a % 128 + 128 * (b % 128) + 16384 * c) (at + 3))
 
 -- the second byte, after a
 unfoldable pub second : ℕ → ℕ → List ℕ → Number

@@ -30,7 +30,7 @@ pub written-two : (n : ℕ) → 128 ≤ n → n < 16384 → written n ≡ (n % 1
 unfolding written
 written-two n g h = rw (le-ltb n 128 g, lt-ltb (n / 128) 128 (omega arith))
 
-pub written-three : (n : ℕ) → 16384 ≤ n → n < 65536 → written n ≡ (n % 128 + 128) ∷ (n / 128 % 128 + 128) ∷ (n / 128 / 128) ∷ []
+pub written-three : (n : ℕ) → 16384 ≤ n → n < 2097152 → written n ≡ (n % 128 + 128) ∷ (n / 128 % 128 + 128) ∷ (n / 128 / 128) ∷ []
 unfolding written
 written-three n g h = rw (le-ltb n 128 (omega arith), le-ltb (n / 128) 128 (omega arith), lt-ltb (n / 128 / 128) 128 (omega arith))
 
@@ -41,6 +41,15 @@ written-some n = go (decLt n 128)
     go : Dec (n < 128) → 1 ≤ length (written n)
     go (yes h) = simp tests (omega arith)
     go (no h) = rw (le-ltb n 128 (omega arith)) (omega arith)
+
+-- the lowest three groups of what is larger
+pub written-long : (n : ℕ) → 16384 ≤ n → length (written n) ≡ 3
+unfolding written
+written-long n g = rw (le-ltb n 128 (omega arith), le-ltb (n / 128) 128 (omega arith)) (last (decLt (n / 128 / 128) 128))
+  where
+    last : Dec (n / 128 / 128 < 128) → suc (suc (length (groups 1 (n / 128 / 128)))) ≡ 3
+    last (yes h) = simp tests
+    last (no h) = simp tests
 
 -- at most k groups
 groups-most : (k n : ℕ) → length (groups k n) ≤ k
@@ -56,7 +65,7 @@ unfolding written
 written-most n = groups-most 3 n
 
 -- ---- what is written is read
-pub first-written : (at n : ℕ) (rest : List ℕ) → n < 65536 → first at (written n ++ rest) ≡ value n (at + length (written n))
+pub first-written : (at n : ℕ) (rest : List ℕ) → n < 2097152 → first at (written n ++ rest) ≡ value n (at + length (written n))
 unfolding first second third
 first-written at n rest h = go (decLt n 128) (decLt n 16384)
   where
@@ -67,7 +76,7 @@ first-written at n rest h = go (decLt n 128) (decLt n 16384)
         rw (written-two n (omega arith) t, le-ltb (n % 128 + 128) 128 (omega arith), ne-eqb (n / 128) 0 (omega arith), lt-ltb (n / 128) 128 (omega arith), e)
     go (no s) (no t) =
         let e : (n % 128 + 128) % 128 + 128 * ((n / 128 % 128 + 128) % 128) + 16384 * (n / 128 / 128) ≡ n = omega arith in
-        rw (written-three n (omega arith) h, le-ltb (n % 128 + 128) 128 (omega arith), ne-eqb (n / 128 % 128 + 128) 0 (omega arith), le-ltb (n / 128 % 128 + 128) 128 (omega arith), ne-eqb (n / 128 / 128) 0 (omega arith), lt-leb 128 (n / 128 / 128) (omega arith), e, le-ltb 65535 n (omega arith))
+        rw (written-three n (omega arith) h, le-ltb (n % 128 + 128) 128 (omega arith), ne-eqb (n / 128 % 128 + 128) 0 (omega arith), le-ltb (n / 128 % 128 + 128) 128 (omega arith), ne-eqb (n / 128 / 128) 0 (omega arith), lt-leb 128 (n / 128 / 128) (omega arith), e)
 
 -- ---- what is read is written
 -- the elements of a slice of bytes
@@ -79,7 +88,6 @@ pub record NumberStands (at : ℕ) (s : List ℕ) (n next : ℕ) : Type 0 where
   pub rest : List ℕ
   pub whole : s ≡ written n ++ rest
   pub after : next ≡ at + length (written n)
-  pub small : n < 65536
 
 pub value-is : (n k m next : ℕ) → value n k ≡ value m next → (n ≡ m) × (k ≡ next)
 value-is n k m next e =
@@ -90,32 +98,30 @@ pub refused-not-value : (r : Refusal) (m next : ℕ) → Refused r ≡ value m n
 refused-not-value r m next e = let z : _≡_ {A = ℕ} 0 1 = cc in omega arith
 
 -- n is read, and its bytes are bs
-stands : (at : ℕ) (bs rest : List ℕ) (n k m next : ℕ) → value n k ≡ value m next → written n ≡ bs → k ≡ at + length bs → n < 65536
+stands : (at : ℕ) (bs rest : List ℕ) (n k m next : ℕ) → value n k ≡ value m next → written n ≡ bs → k ≡ at + length bs
     → NumberStands at (bs ++ rest) m next
-stands at bs rest n k m next e w f h =
+stands at bs rest n k m next e w f =
     let (i, j) = value-is n k m next e in
-    record { rest = rest; whole = rw (← i, w); after = rw (← i, w, ← j) f; small = rw (← i) h }
+    record { rest = rest; whole = rw (← i, w); after = rw (← i, w, ← j) f }
 
 third-stands : (at a b : ℕ) (s : List ℕ) (m next : ℕ) → 128 ≤ a → a < 256 → 128 ≤ b → b < 256 → third at a b s ≡ value m next → NumberStands at (a ∷ b ∷ s) m next
 unfolding third
 third-stands at a b [] m next ha la hb lb e = absurd (refused-not-value _ m next e)
-third-stands at a b (c ∷ s) m next ha la hb lb e = go (ℕ-discrete c 0) (decLt c 128) (decLt 65535 (a % 128 + 128 * (b % 128) + 16384 * c))
+third-stands at a b (c ∷ s) m next ha la hb lb e = go (ℕ-discrete c 0) (decLt c 128)
   where
-    go : Dec (c ≡ 0) → Dec (c < 128) → Dec (65535 < a % 128 + 128 * (b % 128) + 16384 * c) → NumberStands at (a ∷ b ∷ c ∷ s) m next
-    go (yes z) d f = absurd (refused-not-value _ m next (simp tests at e))
-    go (no z) (no d) f = absurd (refused-not-value _ m next (rw (ne-eqb c 0 z, le-leb 128 c (omega arith)) at e))
-    go (no z) (yes d) (yes f) = absurd (refused-not-value _ m next (simp tests at e))
-    go (no z) (yes d) (no f) =
+    go : Dec (c ≡ 0) → Dec (c < 128) → NumberStands at (a ∷ b ∷ c ∷ s) m next
+    go (yes z) d = absurd (refused-not-value _ m next (simp tests at e))
+    go (no z) (no d) = absurd (refused-not-value _ m next (rw (ne-eqb c 0 z, le-leb 128 c (omega arith)) at e))
+    go (no z) (yes d) =
         let n : ℕ = a % 128 + 128 * (b % 128) + 16384 * c in
         let i : n % 128 + 128 ≡ a = omega arith in
         let h : n / 128 ≡ b % 128 + 128 * c = omega arith in
         let j : n / 128 % 128 + 128 ≡ b = rw h (omega arith) in
         let k : n / 128 / 128 ≡ c = rw h (omega arith) in
         stands at (a ∷ b ∷ c ∷ []) s n (at + 3) m next
-        (rw (ne-eqb c 0 z, lt-leb 128 c d, le-ltb 65535 n (omega arith)) at e)
+        (rw (ne-eqb c 0 z, lt-leb 128 c d) at e)
         (rw (written-three n (omega arith) (omega arith), i, j, k))
         refl
-        (omega arith)
 
 second-stands : (at a : ℕ) (s : List ℕ) (m next : ℕ) → 128 ≤ a → a < 256 → Bytes s → second at a s ≡ value m next → NumberStands at (a ∷ s) m next
 unfolding second
@@ -133,7 +139,6 @@ second-stands at a (b ∷ s) m next ha la bytes e = go (ℕ-discrete b 0) (decLt
         (simp tests at e)
         (rw (written-two n (omega arith) (omega arith), i, j))
         refl
-        (omega arith)
 
 pub first-stands : (at : ℕ) (s : List ℕ) (m next : ℕ) → Bytes s → first at s ≡ value m next → NumberStands at s m next
 unfolding first
@@ -142,7 +147,7 @@ first-stands at (a ∷ s) m next bytes e = go (decLt a 128)
   where
     go : Dec (a < 128) → NumberStands at (a ∷ s) m next
     go (no d) = second-stands at a s m next (omega arith) (bytes 0) (λ i. bytes (suc i)) (rw (le-ltb a 128 (omega arith)) at e)
-    go (yes d) = stands at (a ∷ []) s a (at + 1) m next (simp tests at e) (written-one a d) refl (omega arith)
+    go (yes d) = stands at (a ∷ []) s a (at + 1) m next (simp tests at e) (written-one a d) refl
 
 -- ---- a number that was read ends after the offset where it begins
 abbrev Onward : ℕ → Number → Type 0
@@ -158,7 +163,7 @@ unfolding third
 third-onward at a b [] = tt
 third-onward at a b (c ∷ s) =
     let n = a % 128 + 128 * (b % 128) + 16384 * c in
-    onward-cond at (eqb c 0 || leb 128 c || ltb 65535 n) (refusal 2 at) (value n (at + 3)) tt (omega arith)
+    onward-cond at (eqb c 0 || leb 128 c) (refusal 2 at) (value n (at + 3)) tt (omega arith)
 
 second-onward : (at a : ℕ) (s : List ℕ) → Onward at (second at a s)
 unfolding second

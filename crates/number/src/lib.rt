@@ -17,7 +17,7 @@ pub struct Cursor {
 }
 
 pub enum Number {
-    Value(u16, Cursor),
+    Value(u32, Cursor),
     Refused(Refusal),
 }
 
@@ -32,7 +32,7 @@ impl Cursor {
         }
         let a = bytes[at];
         if a < 128 {
-            return Number::Value(a as u16, Cursor { at: at + 1 });
+            return Number::Value(a as u32, Cursor { at: at + 1 });
         }
         from_second(bytes, at, a)
     }
@@ -58,7 +58,7 @@ fn from_second(bytes: &[u8], at: usize, a: u8) -> Number
         return refused(2, at);
     }
     if b < 128 {
-        return Number::Value((a % 128) as u16 + 128 * (b as u16), Cursor { at: at + 2 });
+        return Number::Value((a % 128) as u32 + 128 * (b as u32), Cursor { at: at + 2 });
     }
     from_third(bytes, at, a, b)
 }
@@ -80,14 +80,11 @@ fn from_third(bytes: &[u8], at: usize, a: u8, b: u8) -> Number
         return refused(2, at);
     }
     let value = (a % 128) as u32 + 128 * (b % 128) as u32 + 16384 * (c as u32);
-    if value > 65535 {
-        return refused(2, at);
-    }
-    Number::Value(value as u16, Cursor { at: at + 3 })
+    Number::Value(value, Cursor { at: at + 3 })
 }
 
 // How many bytes a number takes.
-pub fn width(n: u16) -> usize
+pub fn width(n: u32) -> usize
     ensures { λ r. ⌜ r ≡ length (written n) ⌝ }
 {
     if n < 128 {
@@ -100,7 +97,8 @@ pub fn width(n: u16) -> usize
 }
 
 // Writes a number at a place and answers the place after it.
-pub fn write(n: u16, bytes: &mut [u8], at: usize) -> usize
+pub fn write(n: u32, bytes: &mut [u8], at: usize) -> usize
+    requires { ⌜ n < 2097152 ⌝ }
     requires { ⌜ at + length (written n) ≤ length (now bytes) ⌝ }
     ensures { λ r. ⌜ (r ≡ at + length (written n)) × (now (bytes .exit) ≡ sets (now (bytes .entry)) at (written n)) ⌝ }
 {

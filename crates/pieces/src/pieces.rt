@@ -13,7 +13,7 @@ use number::Number;
 use sorting::put_entry;
 
 // How many symbols the entry at a place has.
-fn symbols_at(list: &[u8], place: usize) -> u16
+fn symbols_at(list: &[u8], place: usize) -> u32
     ensures { λ r. ⌜ r ≡ symbolsAt (now (list .entry)) place ⌝ }
 {
     match (Cursor { at: place }).read(list) {

@@ -50,26 +50,42 @@ fn accepted(cells: &[u16]) {
     turns::five(
         b"three entries",
         cells,
-        b"\x03\x00\x00\x01\x01\x03\x03\x02\x01\x03\x01",
+        b"\x03\x00\x00\x00\x01\x01\x03\x80\x01\x03\x02\x01\x03\x01\xff\xff\x7f",
     );
-    turns::five(b"one empty sentence", cells, b"\x01\x00\x03");
+    turns::five(b"one empty sentence", cells, b"\x01\x00\x03\x7f");
     turns::five(b"no entry", cells, b"\x00");
     turns::five(
         b"six entries",
         cells,
-        b"\x06\x00\x00\x01\x01\x01\x01\x02\x00\x01\x01\x03\x02\x02\x01\x00\x03\x02\x01\x03\x01",
+        b"\x06\x00\x00\x00\x01\x01\x01\x00\x01\x02\x00\x00\x01\x01\x03\x00\x02\x02\x01\x00\x00\x03\x02\x01\x03\x01\x00",
+    );
+    turns::five(
+        b"six article numbers",
+        cells,
+        b"\x06\x00\x00\x01\x01\x01\x01\xff\x7f\x01\x02\x00\x80\x80\x01\x01\x01\x03\xff\xff\x03\x02\x02\x01\x00\x80\x80\x04\x03\x02\x01\x03\x01\xff\xff\x7f",
     );
 }
 
 // Lists that are refused, whatever their first entries are.
 fn refused(cells: &[u16]) {
     turns::five(b"count 129", cells, b"\x81\x01");
-    turns::five(b"two of three entries", cells, b"\x03\x00\x00\x01\x01\x03");
-    turns::five(b"lookahead 4", cells, b"\x02\x00\x00\x00\x04");
+    turns::five(
+        b"two of three entries",
+        cells,
+        b"\x03\x00\x00\x00\x01\x01\x03\x80\x01",
+    );
+    turns::five(b"lookahead 4", cells, b"\x02\x00\x00\x00\x00\x04\x00");
+    turns::five(b"no article number", cells, b"\x01\x00\x03");
+    turns::five(
+        b"two bytes of an article number",
+        cells,
+        b"\x01\x00\x03\x80\x80",
+    );
+    turns::five(b"article number padded", cells, b"\x01\x00\x03\x80\x00");
     turns::five(
         b"three entries and one more byte",
         cells,
-        b"\x03\x00\x00\x01\x01\x03\x03\x02\x01\x03\x01\x00",
+        b"\x03\x00\x00\x00\x01\x01\x03\x80\x01\x03\x02\x01\x03\x01\xff\xff\x7f\x00",
     );
 }
 

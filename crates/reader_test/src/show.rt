@@ -27,6 +27,7 @@ pub fn given(list: &[u8], g: Given, left: usize) {
             trial::text(b" symbols");
             trial::bytes(lists::symbols(list, start, len));
             trial::label(b" lookahead ", e.lookahead);
+            trial::word(b" article ", e.article);
         }
     }
     trial::label(b" remain ", left);

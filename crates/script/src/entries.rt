@@ -1,4 +1,4 @@
-// A list whose numbers have one byte each, with its entries in another order, or some of them.
+// A list whose numbers have one byte each, but for its article numbers, with its entries in another order, or some of them.
 //
 // Order k exchanges, for each place i in turn, its entry with that of place i + k % (n - i), and divides k by n - i, where n is how many entries
 // there are, at most eight: the first n! orders are all orders.
@@ -27,11 +27,34 @@ pub fn put(to: &mut [u8], at: usize, v: u8) {
     }
 }
 
+// How many bytes the article number at a place has; the top bit is set on all but the last.
+fn article_size(list: &[u8], at: usize) -> usize
+    requires { ⌜ at < 1024 ⌝ }
+    ensures { λ r. ⌜ r ≤ 3 ⌝ }
+{
+    if byte_at(list, at) < 128 {
+        return 1;
+    }
+    if byte_at(list, at + 1) < 128 {
+        return 2;
+    }
+    3
+}
+
+// How many bytes the entry at a place has.
+fn entry_size(list: &[u8], from: usize) -> usize
+    requires { ⌜ from < 256 ⌝ }
+    ensures { λ r. ⌜ r < 261 ⌝ }
+{
+    let n = wide(byte_at(list, from)) + 2;
+    n + article_size(list, from + n)
+}
+
 // Copies the entry at a place to another; answers the place after it.
 fn copy_entry(list: &[u8], from: usize, to: &mut [u8], at: usize) -> usize
     requires { ⌜ (from < 256) × (at < 256) ⌝ }
 {
-    let n = wide(byte_at(list, from)) + 2;
+    let n = entry_size(list, from);
     let mut i: usize = 0;
     while i < n {
         put(to, at + i, byte_at(list, from + i));
@@ -47,7 +70,7 @@ fn starts(list: &[u8]) -> [u8; 8] {
     let mut i: usize = 0;
     while i < 8 {
         starts[i] = (at % 256) as u8;
-        at = at % 256 + wide(byte_at(list, at)) + 2;
+        at = at % 256 + entry_size(list, at % 256);
         i += 1;
     }
     starts
@@ -136,7 +159,7 @@ pub fn copy_split(list: &[u8], which: usize, base: usize, k: usize, to: &mut [u8
     let mut i: usize = 0;
     while i < n {
         at = copy_left(left_to(which, rest % base), list, from % 256, to, at % 256);
-        from = from % 256 + wide(byte_at(list, from)) + 2;
+        from = from % 256 + entry_size(list, from % 256);
         rest /= base;
         i += 1;
     }

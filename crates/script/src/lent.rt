@@ -11,12 +11,12 @@ const BYTE: u8 = 170;
 
 const WORD: u32 = 43690;
 
-// The most of each that is lent. Cells and bytes are more than a book can have.
+// The most of each that is lent. Cells and bytes are more than a book can have, and bytes more than two lists of 128 entries of up to 127 symbols.
 pub const WORK: usize = 65536;
 
 pub const CELLS: usize = 8600;
 
-pub const BYTES: usize = 16800;
+pub const BYTES: usize = 17600;
 
 pub const MASKS: usize = 200;
 
@@ -33,7 +33,7 @@ pub fn free_cells() -> [u16; CELLS]
 }
 
 pub fn free_bytes() -> [u8; BYTES]
-    ensures { λ r. ⌜ 16800 ≡ length r ⌝ }
+    ensures { λ r. ⌜ 17600 ≡ length r ⌝ }
 {
     [BYTE; BYTES]
 }

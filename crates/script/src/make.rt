@@ -84,6 +84,12 @@ fn bytes_of(args: &[u32], bytes: &mut [u8; BYTES]) -> usize {
     i
 }
 
+fn wide(v: u16) -> u32
+    ensures { λ r. ⌜ r < 65536 ⌝ }
+{
+    v as u32
+}
+
 // The first n cells.
 fn encode(cells: &[u16], n: usize, bytes: &mut [u8]) -> usize {
     let mut at: usize = 0;
@@ -95,10 +101,11 @@ fn encode(cells: &[u16], n: usize, bytes: &mut [u8]) -> usize {
         if bytes.len() <= at {
             return at;
         }
-        if bytes.len() - at < number::width(cells[i]) {
+        let v = wide(cells[i]);
+        if bytes.len() - at < number::width(v) {
             return at;
         }
-        at = number::write(cells[i], bytes, at);
+        at = number::write(v, bytes, at);
         i += 1;
     }
     at

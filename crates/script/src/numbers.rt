@@ -3,7 +3,7 @@ ghost use Prim.Native.Nat.{_≤_, _<_};
 ghost use lib.ListN.{length};
 
 // The most numbers of a line.
-pub const ARGS: usize = 16800;
+pub const ARGS: usize = 17600;
 
 // A number that is being read: how often it stands there, 0 while it has no digit, and its digits as a decimal and a hexadecimal number.
 struct Partial {

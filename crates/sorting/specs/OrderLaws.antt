@@ -206,7 +206,7 @@ module _ (B : Tables) where
           rw (in-state-here B s x xs e, ascending-past B s (omega (arith, e)) a, by-state-past B x xs k (suc s) (omega (arith, e)))
           (ap (λ (l : List Item). x ∷ l) (f xs (rw e at a) b))
       go (no d) f =
-          let up : Ascending B (suc s) (x ∷ xs) = above {s = suc s} r (omega (arith, d)) a in
+          let up : Ascending B (suc s) (x ∷ xs) = above {s = suc s} {x = x} r (omega (arith, d)) a in
           rw (ascending-past B s (omega arith) up) (f (x ∷ xs) up (more m b))
 
   -- entries that are in order stay as they are

@@ -130,7 +130,7 @@ module _ {B : Tables} {s : ℕ} where
 
   single-ascends : {xs ys : List Item} → Single B s xs → Ascending B (suc s) ys → Ascending B s (xs ++ ys)
   single-ascends none a = ascending-from (omega arith) a
-  single-ascends (one {x} r e) a = above {s = s} r (omega (arith, e)) (rw (← e) at a)
+  single-ascends (one {x} r e) a = above {s = s} {x = x} r (omega (arith, e)) (rw (← e) at a)
 
 -- ---- where each state has at most one
 module _ (B : Tables) (f : ℕ → List Item) (single : (s : ℕ) → Single B s (f s)) where

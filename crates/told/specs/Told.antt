@@ -58,15 +58,15 @@ abbrev pub toldListed : Listing → List ℕ
 toldListed (Listing.Refused r) = toldRefusal r
 toldListed (Listing.Entries rest) = eight (1 ∷ rest .at ∷ rest .left ∷ [])
 
--- an entry: where its symbols begin, how many, its lookahead; 'after the last it gives none'
+-- an entry: where its symbols begin, how many, its lookahead, its article number; 'after the last it gives none'
 abbrev pub toldEntry : Nth → List ℕ
 toldEntry (Nth.Refused r) = toldRefusal r
-toldEntry (Nth.Found e) = eight (1 ∷ e .start ∷ e .len ∷ e .lookahead ∷ [])
+toldEntry (Nth.Found e) = eight (1 ∷ e .start ∷ e .len ∷ e .lookahead ∷ e .article ∷ [])
 toldEntry Nth.None = eight (2 ∷ [])
 
 -- the next entry as above, then the offset after it and 'how many remain'
 abbrev pub toldNext : Next → List ℕ
-toldNext (Next.Found e rest) = eight (1 ∷ e .start ∷ e .len ∷ e .lookahead ∷ rest .at ∷ rest .left ∷ [])
+toldNext (Next.Found e rest) = eight (1 ∷ e .start ∷ e .len ∷ e .lookahead ∷ e .article ∷ rest .at ∷ rest .left ∷ [])
 toldNext Next.None = eight (2 ∷ [])
 
 -- 'A wrong entry's judgement carries the ending of its run'

@@ -11,6 +11,7 @@ use course::Judgement;
 use finder::Found;
 use joining::Joined;
 use joining::Which;
+use lists::Entry;
 use lists::Listing;
 use lists::Next;
 use lists::Nth;
@@ -114,12 +115,28 @@ pub fn tell_listed(l: Listing) -> [u64; 8]
     }
 }
 
+// An entry, with where the rest begins and how many are left.
+fn entry_then(e: Entry, at: u64, left: u64) -> [u64; 8]
+    ensures { λ n. ⌜ n ≡ eight (1 ∷ e .start ∷ e .len ∷ e .lookahead ∷ e .article ∷ at ∷ left ∷ []) ⌝ }
+{
+    [
+        1,
+        e.start as u64,
+        e.len as u64,
+        e.lookahead as u64,
+        e.article as u64,
+        at,
+        left,
+        0,
+    ]
+}
+
 pub fn tell_entry(e: Nth) -> [u64; 8]
     ensures { λ n. ⌜ n ≡ toldEntry e ⌝ }
 {
     match e {
         Nth::Refused(r) => tell_refusal(r),
-        Nth::Found(e) => few(1, e.start as u64, e.len as u64, e.lookahead as u64),
+        Nth::Found(e) => entry_then(e, 0, 0),
         Nth::None => few(2, 0, 0, 0),
     }
 }
@@ -128,16 +145,7 @@ pub fn tell_next(n: Next) -> [u64; 8]
     ensures { λ r. ⌜ r ≡ toldNext n ⌝ }
 {
     match n {
-        Next::Found(e, rest) => [
-            1,
-            e.start as u64,
-            e.len as u64,
-            e.lookahead as u64,
-            rest.at as u64,
-            rest.left as u64,
-            0,
-            0,
-        ],
+        Next::Found(e, rest) => entry_then(e, rest.at as u64, rest.left as u64),
         Next::None => few(2, 0, 0, 0),
     }
 }

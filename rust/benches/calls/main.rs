@@ -21,7 +21,7 @@ use independent::book::Book;
 use measure::{ratio, shown, Subject};
 use purlquartz::Sizes;
 use random::books::{breakable, wild, Taste};
-use random::lists::{covering_errors, encode_list, failing_lines, Line};
+use random::lists::{covering_errors, encode_list, failing_lines, with_articles, Line};
 use random::ranks::ranked;
 use random::Random;
 use std::{env, fs};
@@ -191,7 +191,8 @@ fn print_break(name: &str, book: &Book) {
     );
 }
 
-/// Lists with an entry for each state that fails in error, sorted before and turned round.
+/// Lists with an entry for each state that fails in error, sorted before and turned round. All lists
+/// here have article numbers of one to three bytes.
 fn print_sortings() {
     println!("| book | entries | bytes | sort_list, in order | turned round |");
     println!("|---|---|---|---|---|");
@@ -239,10 +240,7 @@ fn print_joinings() {
 fn print_joining(name: &str, book: &Book) {
     let library = Subject::new(&both::LIBRARY, book);
     let independent = Subject::new(&both::INDEPENDENT, book);
-    let states = failing_lines(&mut Random::new(1), book);
-    let length = |line: &&Line| line.0.len();
-    let shortest = chosen(&states, |lines| lines.iter().min_by_key(length));
-    let longest = chosen(&states, |lines| lines.iter().max_by_key(length));
+    let [shortest, longest] = shortest_and_longest(book);
     let joined = encode_list(&shortest);
     let longest = encode_list(&longest);
     let halves = [0, 1].map(|first| {
@@ -265,6 +263,16 @@ fn print_joining(name: &str, book: &Book) {
         halves[1].len(),
         times[1]
     );
+}
+
+/// For each state that has any lines the shortest and the longest of them.
+fn shortest_and_longest(book: &Book) -> [Vec<Line>; 2] {
+    let mut random = Random::new(1);
+    let states = failing_lines(&mut random, book);
+    let length = |line: &&Line| line.sentence.len();
+    let shortest = chosen(&states, |lines| lines.iter().min_by_key(length));
+    let longest = chosen(&states, |lines| lines.iter().max_by_key(length));
+    [shortest, longest].map(|lines| with_articles(&mut random, lines))
 }
 
 /// One of the lines of each state that has any.

@@ -2,8 +2,8 @@
 
 use super::Calls;
 use crate::independent::book::Book;
-use crate::random::lists::{line, Line};
-use purlquartz::{Ending, Judgement, Refusal, Sorted, STACK_CELLS};
+use crate::random::lists::Line;
+use purlquartz::{Ending, JoinRefusal, Joined, Judgement, Refusal, Sorted, STACK_CELLS};
 use std::fmt::Debug;
 
 /// What lent bytes hold before a call.
@@ -76,6 +76,35 @@ pub fn sort_into(
     (answer, bytes)
 }
 
+/// The joined list, or the fault.
+pub fn join(calls: &Calls, book: &Book, first: &[u8], second: &[u8]) -> Result<Vec<u8>, Joined> {
+    let cells = book.cells();
+    let too_short = JoinRefusal {
+        list: None,
+        refusal: TOO_SHORT,
+    };
+    in_any_room(first.len() + second.len(), too_short, |room| {
+        let (answer, bytes) = join_into(calls, &cells, [first, second], room);
+        let told = answer.map(|joined| match joined {
+            Joined::List(count) => Ok(count),
+            fault => Err(fault),
+        });
+        (told, bytes)
+    })
+}
+
+/// The answer with so many lent bytes, and what these hold then.
+pub fn join_into(
+    calls: &Calls,
+    cells: &[u16],
+    [first, second]: [&[u8]; 2],
+    room: usize,
+) -> (Result<Joined, JoinRefusal>, Vec<u8>) {
+    let mut bytes = vec![UNTOUCHED; room];
+    let answer = (calls.join_lists)(cells, first, second, &mut bytes);
+    (answer, bytes)
+}
+
 pub fn judge(calls: &Calls, book: &Book, list: &[u8]) -> Judgement {
     let mut work = vec![0; book.sizes.work_cells()];
     let judged = (calls.judge)(&book.cells(), list, &mut work, &mut [0; STACK_CELLS]);
@@ -89,9 +118,11 @@ pub fn is_fault(judgement: Judgement) -> bool {
 
 pub fn lines_of(calls: &Calls, book: &Book, list: &[u8]) -> Vec<Line> {
     let entries = (calls.entries)(&book.cells(), list).expect("a good list");
-    let lines = entries
-        .iter()
-        .map(|entry| line(entry.symbols(list), entry.lookahead));
+    let lines = entries.iter().map(|entry| Line {
+        sentence: entry.symbols(list).to_vec(),
+        lookahead: entry.lookahead,
+        article: entry.article,
+    });
     lines.collect()
 }
 
@@ -99,8 +130,9 @@ pub fn lines_of(calls: &Calls, book: &Book, list: &[u8]) -> Vec<Line> {
 pub fn states(calls: &Calls, book: &Book, list: &[u8]) -> Vec<usize> {
     let cells = book.cells();
     let lines = lines_of(calls, book, list).into_iter();
-    let states = lines.map(|(sentence, lookahead)| {
-        match (calls.run)(&cells, &sentence, lookahead, &mut [0; STACK_CELLS]) {
+    let states = lines.map(|line| {
+        let mut stack = [0; STACK_CELLS];
+        match (calls.run)(&cells, &line.sentence, line.lookahead, &mut stack) {
             Ok(Ending::Error(stop) | Ending::Broken(stop)) => stop.state.into(),
             other => panic!("{other:?} in a list without a fault"),
         }

@@ -109,11 +109,11 @@ fn action_cell(action: Action) -> u16 {
 }
 
 fn decode(source: &mut impl Source) -> Result<Book, Refusal> {
-    let form = ranged(source, 3, 1, 2)?;
-    let terminals = ranged(source, 4, 1, 32)?;
-    let nonterminals = ranged(source, 4, 0, 32)?;
-    let states = ranged(source, 4, 1, 128)?;
-    let productions = ranged(source, 4, 0, 128)?;
+    let form = source.next()?.within(3, 1, 2)?;
+    let terminals = source.next()?.within(4, 1, 32)?;
+    let nonterminals = source.next()?.within(4, 0, 32)?;
+    let states = source.next()?.within(4, 1, 128)?;
+    let productions = source.next()?.within(4, 0, 128)?;
     let sizes = Sizes {
         form,
         terminals,
@@ -134,24 +134,15 @@ fn decode(source: &mut impl Source) -> Result<Book, Refusal> {
     }
 }
 
-/// The next number if it is from `least` to `most`, or else the refusal given for it.
-fn ranged(source: &mut impl Source, fault: u16, least: u16, most: u16) -> Result<u16, Refusal> {
-    let number = source.next()?;
-    if number.value < least || number.value > most {
-        return refuse(fault, number.place);
-    }
-    Ok(number.value)
-}
-
 fn decode_productions(source: &mut impl Source, sizes: Sizes) -> Result<Vec<Production>, Refusal> {
     let mut productions = Vec::new();
     for _ in 0..sizes.productions {
         let left = source.next()?;
-        if left.value >= sizes.nonterminals {
+        if left.value >= sizes.nonterminals.into() {
             return refuse(5, left.place);
         }
-        let length = ranged(source, 5, 0, 32)?;
-        let left = left.value;
+        let left = left.value as u16;
+        let length = source.next()?.within(5, 0, 32)?;
         productions.push(Production { left, length });
     }
     Ok(productions)
@@ -164,11 +155,12 @@ fn decode_ranks(source: &mut impl Source, sizes: Sizes) -> Result<Vec<u16>, Refu
     }
     let mut ranks = Vec::new();
     for _ in 0..sizes.terminals {
-        let rank = source.next()?;
-        if rank.value >= sizes.terminals || ranks.contains(&rank.value) {
-            return refuse(16, rank.place);
+        let number = source.next()?;
+        let rank = number.within(16, 0, sizes.terminals - 1)?;
+        if ranks.contains(&rank) {
+            return refuse(16, number.place);
         }
-        ranks.push(rank.value);
+        ranks.push(rank);
     }
     Ok(ranks)
 }
@@ -187,18 +179,20 @@ fn decode_actions(source: &mut impl Source, sizes: Sizes) -> Result<Vec<Action>,
     Ok(actions)
 }
 
-fn decode_action(value: u16, terminal: u16, sizes: Sizes) -> Option<Action> {
+fn decode_action(value: u32, terminal: u16, sizes: Sizes) -> Option<Action> {
     let end_mark = terminal == 0;
     match value {
         0 => Some(Action::Error),
         1 => end_mark.then_some(Action::Accept),
         _ if value & 1 == 0 => {
             let state = (value - 2) / 2;
-            (state < sizes.states && !end_mark).then_some(Action::Shift(state))
+            let is_there = state < sizes.states.into() && !end_mark;
+            is_there.then_some(Action::Shift(state as u16))
         }
         _ => {
             let production = (value - 3) / 2;
-            (production < sizes.productions).then_some(Action::Reduce(production))
+            let is_there = production < sizes.productions.into();
+            is_there.then_some(Action::Reduce(production as u16))
         }
     }
 }
@@ -207,7 +201,7 @@ fn decode_gotos(source: &mut impl Source, sizes: Sizes) -> Result<Vec<Option<u16
     let count = usize::from(sizes.states) * usize::from(sizes.nonterminals);
     let mut gotos = Vec::new();
     for _ in 0..count {
-        let value = ranged(source, 15, 0, sizes.states)?;
+        let value = source.next()?.within(15, 0, sizes.states)?;
         gotos.push(value.checked_sub(1));
     }
     Ok(gotos)

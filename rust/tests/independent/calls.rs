@@ -3,6 +3,7 @@
 use super::book::{Action, Book};
 use super::breaks::{find_breaks, has_break};
 use super::certificate::Certificate;
+use super::list::Item;
 use super::numbers::refuse;
 use super::reach::{distances, map_cell};
 use super::summaries::Summaries;
@@ -277,14 +278,14 @@ pub fn sort_list(cells: &[u16], bytes: &[u8], lent: &mut [u8]) -> Result<Sorted,
         match failing_state(&book, read.symbols(bytes), read.lookahead) {
             Err(ending) => return Ok(Sorted::Wrong { entry, ending }),
             Ok(state) if by_state.contains_key(&state) => return Ok(Sorted::Repeat { entry }),
-            Ok(state) => by_state.insert(state, (read.symbols(bytes), read.lookahead)),
+            Ok(state) => by_state.insert(state, Item::of(bytes, read)),
         };
     }
     let sorted = list::encode_list(by_state.into_values());
     hand_over(&sorted, lent).map(Sorted::List)
 }
 
-/// The lines of both lists by state, and for one state by length. The sort leaves equals in their
+/// The entries of both lists by state, and for one state by length. The sort leaves equals in their
 /// order, so that the first list's comes first, and the first of each state is taken.
 pub fn join_lists(
     cells: &[u16],
@@ -299,19 +300,19 @@ pub fn join_lists(
         Ok((list, bytes, read.entries))
     };
     let lists = [decode(Which::First, first)?, decode(Which::Second, second)?];
-    let mut lines = Vec::new();
+    let mut items = Vec::new();
     for (list, bytes, entries) in lists {
         match states_in_order(&book, bytes, &entries) {
             Err(judgement) => return Ok(Joined::Fault { list, judgement }),
             Ok(states) => {
-                let line = |entry: Entry| (entry.symbols(bytes), entry.lookahead);
-                lines.extend(states.into_iter().zip(entries.into_iter().map(line)));
+                let entries = entries.iter().map(|entry| Item::of(bytes, entry));
+                items.extend(states.into_iter().zip(entries));
             }
         }
     }
-    lines.sort_by_key(|(state, (symbols, _))| (*state, symbols.len()));
-    lines.dedup_by_key(|(state, _)| *state);
-    let joined = list::encode_list(lines.into_iter().map(|(_, line)| line));
+    items.sort_by_key(|(state, item)| (*state, item.sentence.len()));
+    items.dedup_by_key(|(state, _)| *state);
+    let joined = list::encode_list(items.into_iter().map(|(_, item)| item));
     let count = hand_over(&joined, lent).map_err(of(None))?;
     Ok(Joined::List(count))
 }

@@ -18,16 +18,31 @@ impl List {
     }
 }
 
+/// An entry by what it says.
+#[derive(Clone, Copy)]
+pub struct Item<'a> {
+    pub sentence: &'a [u8],
+    pub lookahead: u16,
+    pub article: u32,
+}
+
+impl<'a> Item<'a> {
+    pub fn of(bytes: &'a [u8], entry: &Entry) -> Item<'a> {
+        Item {
+            sentence: entry.symbols(bytes),
+            lookahead: entry.lookahead,
+            article: entry.article,
+        }
+    }
+}
+
 /// Reads a list for a book of so many terminals.
 pub fn decode(bytes: &[u8], terminals: u16) -> Result<List, Refusal> {
     let mut source = Bytes::new(bytes);
-    let count = source.next()?;
-    if count.value > 128 {
-        return refuse(9, count.place);
-    }
+    let count = source.next()?.within(9, 0, 128)?;
     let first = source.offset();
     let mut entries = Vec::new();
-    for _ in 0..count.value {
+    for _ in 0..count {
         entries.push(decode_entry(&mut source, terminals)?);
     }
     match source.rest() {
@@ -36,14 +51,15 @@ pub fn decode(bytes: &[u8], terminals: u16) -> Result<List, Refusal> {
     }
 }
 
-/// The bytes of a list of sentences, each with its lookahead.
-pub fn encode_list<'a>(lines: impl ExactSizeIterator<Item = (&'a [u8], u16)>) -> Vec<u8> {
+/// The bytes of a list of entries.
+pub fn encode_list<'a>(items: impl ExactSizeIterator<Item = Item<'a>>) -> Vec<u8> {
     let mut bytes = Vec::new();
-    encode(lines.len() as u16, &mut bytes);
-    for (sentence, lookahead) in lines {
-        encode(sentence.len() as u16, &mut bytes);
-        bytes.extend(sentence);
-        encode(lookahead, &mut bytes);
+    encode(items.len() as u32, &mut bytes);
+    for item in items {
+        encode(item.sentence.len() as u32, &mut bytes);
+        bytes.extend(item.sentence);
+        encode(item.lookahead.into(), &mut bytes);
+        encode(item.article, &mut bytes);
     }
     bytes
 }
@@ -60,29 +76,22 @@ pub fn next(bytes: &[u8], rest: Rest) -> Option<(Entry, Rest)> {
 
 fn decode_entry(source: &mut Bytes, terminals: u16) -> Result<Entry, Refusal> {
     let symbols = decode_sentence(source, terminals)?;
-    let lookahead = source.next()?;
-    if lookahead.value >= terminals {
-        return refuse(11, lookahead.place);
-    }
+    let lookahead = source.next()?.within(11, 0, terminals - 1)?;
+    let article = source.next()?.value;
     Ok(Entry {
         start: symbols.start,
         length: symbols.len(),
-        lookahead: lookahead.value,
+        lookahead,
+        article,
     })
 }
 
 /// Reads a length and so many symbols, and says where these stand, each in one byte.
 pub fn decode_sentence(source: &mut Bytes, terminals: u16) -> Result<Range<usize>, Refusal> {
-    let length = source.next()?;
-    if length.value > 1_000 {
-        return refuse(8, length.place);
-    }
+    let length = source.next()?.within(8, 0, 1_000)?;
     let start = source.offset();
-    for _ in 0..length.value {
-        let symbol = source.next()?;
-        if symbol.value == 0 || symbol.value >= terminals {
-            return refuse(7, symbol.place);
-        }
+    for _ in 0..length {
+        source.next()?.within(7, 1, terminals - 1)?;
     }
     Ok(start..source.offset())
 }

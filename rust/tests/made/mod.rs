@@ -3,6 +3,7 @@
 
 use crate::grammar::Grammar;
 use crate::independent::book::{Action, Book, Production};
+use crate::independent::numbers::MOST_NUMBER;
 use crate::lalr;
 use crate::random::lists::{line, Line};
 use purlquartz::Sizes;
@@ -30,12 +31,42 @@ pub fn hand_book(
     Book::from_cells(&cells).expect("a good book")
 }
 
-/// The specification's list for Bracket: one entry for each state, by rising state.
+/// The specification's list for Bracket, with article 0 in each entry: one for each state, by rising
+/// state.
 pub fn bracket_lines() -> Vec<Line> {
     let sentences: [&[u8]; 6] = [&[], &[1], &[2], &[1], &[2, 1], &[2, 1, 3]];
     let lines = sentences.into_iter().zip([0, 1, 0, 3, 0, 1]);
     lines.map(|(symbols, next)| line(symbols, next)).collect()
 }
+
+/// Lists that are refused for Bracket, by which number and at which place.
+pub const REFUSED_LISTS: [(&[u8], u16, usize); 22] = [
+    (&[], 1, 0),
+    (&[0x80, 0], 2, 0),
+    (&[0x81, 1], 9, 0),
+    (&[0x81, 0x80, 4], 9, 0),
+    (&[1, 0xe9, 7], 8, 1),
+    (&[1, 0x80, 0x80, 4], 8, 1),
+    (&[1, 1, 4, 0, 0], 7, 2),
+    (&[1, 1, 0, 0, 0], 7, 2),
+    (&[1, 1, 0x81, 0x80, 4, 0, 0], 7, 2),
+    (&[1, 0, 4, 0], 11, 2),
+    (&[1, 0, 0x80, 0x80, 4, 0], 11, 2),
+    // The article number: missing, cut short, padded, of four bytes.
+    (&[1, 0, 0], 1, 3),
+    (&[1, 0, 0, 0x80], 1, 3),
+    (&[1, 0, 0, 0xff, 0xff], 1, 3),
+    (&[1, 0, 0, 0x80, 0], 2, 3),
+    (&[1, 0, 0, 0xff, 0xff, 0], 2, 3),
+    (&[1, 0, 0, 0x80, 0x80, 0x80, 1], 2, 3),
+    (&[1, 0, 0, 0xff, 0xff, 0x7f, 0], 6, 6),
+    // After another fault of the entry, and before one of the next.
+    (&[1, 0, 4, 0x80, 0], 11, 2),
+    (&[2, 0, 0, 0x80, 0, 0xe9, 7], 2, 3),
+    // The first entry is passed; in the last list the second repeats the first.
+    (&[2, 0, 1, 0, 0, 4, 0], 11, 5),
+    (&[2, 0, 0, 0, 0, 0, 0, 0], 6, 7),
+];
 
 /// 128 states, each 37 after the one before it, that follow one another by 1, the last by itself;
 /// by 2 each is followed by itself. With the end mark next the even states fail in error, and the
@@ -59,15 +90,23 @@ fn rung(step: usize) -> usize {
 
 /// For each state of the ladder the shortest line that fails there, by rising state.
 pub fn ladder_lines() -> Vec<Line> {
-    let mut lines: Vec<Line> = (0..128).map(|step| (vec![1; step], 0)).collect();
-    lines.sort_by_key(|(sentence, _)| rung(sentence.len()));
+    let mut lines: Vec<Line> = (0..128).map(|step| line(&[1; 127][..step], 0)).collect();
+    lines.sort_by_key(|line| rung(line.sentence.len()));
     lines
 }
 
 /// The lines made longer by 2, which leaves a state of the ladder as it is.
 pub fn lengthened(mut lines: Vec<Line>, length: usize) -> Vec<Line> {
-    for (sentence, _) in &mut lines {
-        sentence.resize(length, 2);
+    for line in &mut lines {
+        line.sentence.resize(length, 2);
+    }
+    lines
+}
+
+/// The lines with the highest article numbers, each another, the first line the highest.
+pub fn highly_numbered(mut lines: Vec<Line>) -> Vec<Line> {
+    for (line, article) in lines.iter_mut().zip((0..=MOST_NUMBER).rev()) {
+        line.article = article;
     }
     lines
 }

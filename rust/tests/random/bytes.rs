@@ -8,7 +8,7 @@ pub fn damaged(random: &mut Random, bytes: &[u8]) -> Vec<u8> {
     let mut bytes = bytes.to_vec();
     let at = random.below(bytes.len().max(1));
     let any = random.below(256) as u8;
-    let byte = random.pick(&[0, 1, 2, 0x7f, 0x80, 0x81, 0xff, any]);
+    let byte = random.pick(&[0, 1, 2, 3, 4, 0x7f, 0x80, 0x81, 0xff, any]);
     match random.below(7) {
         0 => bytes.truncate(at),
         1 => bytes.push(byte),
@@ -31,6 +31,15 @@ fn pad(bytes: &mut Vec<u8>, at: usize, more: usize) {
             bytes.insert(at + 1, 0x80);
         }
     }
+}
+
+/// The numbers with one of them over 65,535. Its low 16 bits stay, which may be in range.
+pub fn widened(random: &mut Random, numbers: &[u32]) -> Vec<u32> {
+    let mut numbers = numbers.to_vec();
+    let any = random.below(numbers.len());
+    let more = random.between(1, 31) as u32;
+    numbers[any] = numbers[any] % 65_536 + 65_536 * more;
+    numbers
 }
 
 /// The book's cells with one, two or three of them changed, some lost or some added. Ranks are

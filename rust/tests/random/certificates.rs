@@ -37,7 +37,7 @@ impl Pieces {
         let mut sentences = Vec::new();
         for (&claim, sentence) in self.pairs.iter().zip(&self.sentences) {
             if claim < LONG {
-                encode(sentence.len() as u16, &mut sentences);
+                encode(sentence.len() as u32, &mut sentences);
                 sentences.extend(sentence);
             }
         }

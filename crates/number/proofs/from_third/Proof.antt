@@ -1,6 +1,6 @@
 -- `number::from_third` meets its contract: each test picks a case of `third`. Assumes nothing.
 use borrow.Author.Needs.{needs}
-use borrow.Author.Tests.{lt-ltb, le-ltb, le-leb, lt-leb, eq-eqb, ne-eqb}
+use borrow.Author.Tests.{le-leb, lt-leb, eq-eqb, ne-eqb}
 use lib.ListN.{drop-of-length-le}
 use Rattle.number.specs.Number.{third}
 use Rattle.number.specs.NumberLaws.{byte-at}
@@ -24,13 +24,7 @@ returns-3 c =
 returns-4 : tie.Need-returns-4
 unfolding third
 returns-4 c =
-    rw (byte-at _ _ (c .before .before .before .before .before .if1 .left), ne-eqb _ _ (c .before .before .before .if2 .left), lt-leb _ _ (c .before .before .if3 .left), lt-ltb _ _ (c .before .if4 .taken))
-    (c .refused4 .ensures)
-
-returns-5 : tie.Need-returns-5
-unfolding third
-returns-5 c =
-    rw (byte-at _ _ (c .before .before .before .before .if1 .left), ne-eqb _ _ (c .before .before .if2 .left), lt-leb _ _ (c .before .if3 .left), le-ltb _ _ (c .if4 .left))
+    rw (byte-at _ _ (c .before .before .before .if1 .left), ne-eqb _ _ (c .before .if2 .left), lt-leb _ _ (c .if3 .left))
 
 pub from-third-spec : {M : Type 1} → statement M
 from-third-spec =
@@ -51,8 +45,5 @@ from-third-spec =
     (λ c. search needs)
     (λ c. search needs)
     (λ c. search needs)
-    (λ c κs. search needs)
-    returns-4
     (λ c. search needs)
-    (λ c. search needs)
-    returns-5)
+    returns-4)

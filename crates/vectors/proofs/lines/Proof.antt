@@ -7,7 +7,7 @@ use Rattle.vectors.proofs.lines.Statement.{statement}
 use Rattle.vectors.proofs.lines.Tie as tie
 
 abbrev Inv-loop : tie.InvT-loop
-Inv-loop text args₀ given₀ cells₀ bytes₀ l₀ args given cells bytes l = length args ≡ 16800
+Inv-loop text args₀ given₀ cells₀ bytes₀ l₀ args given cells bytes l = length args ≡ 17600
 
 abbrev μ-loop : tie.MeasureT-loop
 μ-loop text args₀ given₀ cells₀ bytes₀ l₀ args given cells bytes l = length text - l .next

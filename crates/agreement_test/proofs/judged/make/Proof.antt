@@ -5,7 +5,7 @@ use Rattle.agreement_test.proofs.judged.make.Statement.{statement}
 use Rattle.agreement_test.proofs.judged.make.Tie as tie
 
 abbrev Inv-loop : tie.InvT-loop
-Inv-loop least words out list₀ at₀ q₀ list at q = (at ≤ 1 + q * 102) × (q ≤ 32)
+Inv-loop least words out list₀ at₀ q₀ list at q = (at ≤ 1 + q * 105) × (q ≤ 32)
 
 abbrev μ-loop : tie.MeasureT-loop
 μ-loop least words out list₀ at₀ q₀ list at q = 32 - q

@@ -3,9 +3,15 @@ use mathlib.Core.Path.{sym, _∙_}
 use Rattle.book.specs.BookLaws.{headed, headed-over, ends-refused, checked-stop, checked-on}
 use Rattle.book.specs.Book.{ofBytes}
 use Rattle.book.specs.RangeLaws.{few}
+use Rattle.book.specs.WidthLaws.{headed-cells}
+use native.Mathlib.Omega.{arith}
 use borrow.Author.Needs.{needs}
 use Rattle.book.proofs.bytes.check_bytes.Statement.{statement}
 use Rattle.book.proofs.bytes.check_bytes.Tie as tie
+
+decode-row-requires : tie.Need-decode-row-requires
+decode-row-requires c κs =
+    (omega arith, headed-cells (headed _ _ _ (sym (c .before .before .before .head-row .ensures) ∙ c .before .enum-told .given .1)))
 
 body-rows-requires : tie.Need-body-rows-requires
 body-rows-requires c κs =
@@ -32,7 +38,7 @@ check-bytes-spec =
     (λ c. search needs)
     (λ c. search needs)
     (λ c. search needs)
-    (λ c κs. search needs)
+    decode-row-requires
     (λ c. search needs)
     (λ c κs. search needs)
     (λ c. search needs)

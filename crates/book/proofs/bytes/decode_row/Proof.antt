@@ -4,7 +4,7 @@ use Prim.Native.Nat.{_-_, _≤_}
 use mathlib.Core.Path.{_≡_, sym, _∙_}
 use lib.ListN.{length, length-set}
 use Rattle.number.specs.Number.{numberAt}
-use Rattle.book.specs.BytesLaws.{Decoded, decoded-none, decoded-more, decoded-stop, decoded-done}
+use Rattle.book.specs.BytesLaws.{Decoded, decoded-none, decoded-next, decoded-more, decoded-stop, decoded-done}
 use borrow.Author.Needs.{needs}
 use Rattle.book.proofs.bytes.decode_row.Statement.{statement}
 use Rattle.book.proofs.bytes.decode_row.Tie as tie
@@ -24,15 +24,20 @@ same-length c = c .before .before .before .before .loop .inv .1
 returns : tie.Need-returns Inv-loop μ-loop
 returns c = decoded-stop (c .before .before .before .before .loop .inv .2) (c .before .before .before .loop-test .taken) (sym (c .before .before .read .ensures) ∙ c .enum-told .given .1)
 
+cast-cells : tie.Need-cast-cells Inv-loop μ-loop
+cast-cells c =
+    let n = decoded-next (c .before .before .before .before .before .loop .inv .2) (c .before .before .before .before .loop-test .taken) (sym (c .before .before .before .read .ensures) ∙ c .before .v .given .1) in
+    omega (arith, n, c .before .before .before .before .before .before .before .before .pre .1 (c .before .before .before .before .before .loop .i))
+
 mul-cells : tie.Need-mul-cells Inv-loop μ-loop
-mul-cells c = omega (arith, c .before .before .before .before .before .before .before .before .pre)
+mul-cells c = omega (arith, c .before .before .before .before .before .before .before .before .pre .0)
 
 slice-write-cells : tie.Need-slice-write-cells Inv-loop μ-loop
-slice-write-cells c = omega (arith, c .before .before .before .before .before .before .before .before .pre)
+slice-write-cells c = omega (arith, c .before .before .before .before .before .before .before .before .pre .0)
 
 loop-again : tie.Need-loop-again Inv-loop μ-loop
 loop-again c =
-    (omega arith, simp length-set (c .before .before .before .before .before .loop .inv .1), decoded-more (c .before .before .before .before .before .loop .inv .2) (c .before .before .before .before .loop-test .taken) (c .before .before .before .before .before .before .before .before .pre) (sym (c .before .before .before .read .ensures) ∙ c .before .v .given .1))
+    (omega arith, simp length-set (c .before .before .before .before .before .loop .inv .1), decoded-more (c .before .before .before .before .before .loop .inv .2) (c .before .before .before .before .loop-test .taken) (c .before .before .before .before .before .before .before .before .pre .0) (sym (c .before .before .before .read .ensures) ∙ c .before .v .given .1))
 
 same-length-2 : tie.Need-same-length-2 Inv-loop μ-loop
 same-length-2 c = c .before .loop .inv .1
@@ -52,6 +57,7 @@ decode-row-spec =
     (λ c. search needs)
     same-length
     returns
+    cast-cells
     mul-cells
     slice-write-cells
     (λ c. search needs)

@@ -5,6 +5,7 @@ use native.Mathlib.Omega.{arith}
 use Rattle.book.specs.BookLaws.{readable, deliver-stop, deliver-short, deliver-whole, checked-faulty}
 use Rattle.book.specs.Book.{ofBytes, reading}
 use Rattle.book.specs.RangeLaws.{ranks-few, actions-few, gotos-few, few}
+use Rattle.book.specs.WidthLaws.{readable-cells}
 use borrow.Author.Needs.{needs}
 use Rattle.book.proofs.bytes.read.Statement.{statement}
 use Rattle.book.proofs.bytes.read.Tie as tie
@@ -23,6 +24,12 @@ returns c =
     let v = readable _ _ _ (sym (c .before .before .before .before .before .check-bytes .ensures) ∙ c .before .before .before .d .given .1) in
     deliver-short _ _ _ (v .cells) (v .next) (v .is) (omega (arith, c .if1 .taken, v .count, c .before .body-length .ensures))
 
+decode-row-requires : tie.Need-decode-row-requires
+unfolding ofBytes
+decode-row-requires c κs =
+    let v = readable _ _ _ (sym (c .before .before .before .before .before .before .check-bytes .ensures) ∙ c .before .before .before .before .d .given .1) in
+    (c .before .if1 .left, rw (← c .before .before .body-length .ensures) at (readable-cells v))
+
 returns-2 : tie.Need-returns-2
 unfolding reading
 returns-2 c =
@@ -40,4 +47,4 @@ returns-3 c =
 
 pub read-spec : {M : Type 1} → statement M
 read-spec =
-    tie.close (tie.spec (λ c κs. search needs) (λ c. search needs) (λ c. search needs) body-length-requires add-n returns (λ c κs. search needs) returns-2 (λ c. search needs) returns-3)
+    tie.close (tie.spec (λ c κs. search needs) (λ c. search needs) (λ c. search needs) body-length-requires add-n returns decode-row-requires returns-2 (λ c. search needs) returns-3)

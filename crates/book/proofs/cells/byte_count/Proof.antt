@@ -20,6 +20,9 @@ abbrev μ-loop : tie.MeasureT-loop
 loop-holds : tie.Need-loop-holds Inv-loop μ-loop
 loop-holds c = (omega arith, refl)
 
+cast-width : tie.Need-cast-width Inv-loop μ-loop
+cast-width c = omega (arith, c .shared-slice-known2 .given (c .before .before .loop .i))
+
 add-n : tie.Need-add-n Inv-loop μ-loop
 add-n c = omega (arith, bytes-fit (c .before .before .before .before .before .args .cells .now) (c .before .before .before .loop .i) (c .before .before .loop-test .taken), bytes-most (c .before .before .before .before .before .args .cells .now), c .width .ensures)
 
@@ -31,4 +34,4 @@ returns c = c .before .loop .inv .1 ∙ ap (λ (l : List ℕ). length (bytesOf l
 
 pub byte-count-spec : {M : Type 1} → statement M
 byte-count-spec =
-    tie.close (tie.spec Inv-loop μ-loop loop-holds (λ c. search needs) (λ c. search needs) (λ c κs. search needs) add-n (λ c. search needs) (λ c. search needs) loop-again returns)
+    tie.close (tie.spec Inv-loop μ-loop loop-holds (λ c. search needs) (λ c. search needs) cast-width (λ c κs. search needs) add-n (λ c. search needs) (λ c. search needs) loop-again returns)

@@ -17,8 +17,14 @@ abbrev μ-loop : tie.MeasureT-loop
 loop-holds : tie.Need-loop-holds Inv-loop μ-loop
 loop-holds c = (omega arith, search needs, encoded-none)
 
+cast-write : tie.Need-cast-write Inv-loop μ-loop
+cast-write c = omega (arith, c .shared-slice-known2 .given (c .before .before .loop .i))
+
 write-requires : tie.Need-write-requires Inv-loop μ-loop
-write-requires c κs = rw (c .before .before .before .loop .inv .1) (encoded-fits (c .before .before .before .loop .inv .2) (c .before .before .loop-test .taken) (c .before .before .before .before .before .before .pre))
+write-requires c κs = (
+  omega (arith, c .before .shared-slice-known2 .given (c .before .before .before .loop .i)),
+  rw (c .before .before .before .loop .inv .1) (encoded-fits (c .before .before .before .loop .inv .2) (c .before .before .loop-test .taken) (c .before .before .before .before .before .before .pre)),
+)
 
 loop-again : tie.Need-loop-again Inv-loop μ-loop
 loop-again c =
@@ -32,4 +38,4 @@ returns c = encoded-done (c .before .loop .inv .2) (c .loop-test .left)
 
 pub encode-row-spec : {M : Type 1} → statement M
 encode-row-spec =
-    tie.close (tie.spec Inv-loop μ-loop loop-holds (λ c. search needs) (λ c. search needs) write-requires (λ c. search needs) (λ c. search needs) loop-again same-length returns)
+    tie.close (tie.spec Inv-loop μ-loop loop-holds (λ c. search needs) (λ c. search needs) cast-write write-requires (λ c. search needs) (λ c. search needs) loop-again same-length returns)

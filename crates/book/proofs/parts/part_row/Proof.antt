@@ -24,7 +24,7 @@ loop-holds : tie.Need-loop-holds Inv-loop μ-loop
 loop-holds c = (omega arith, turns-none, marks-none (c .before .before .before .before .before .before .args .part))
 
 admit-requires : tie.Need-admit-requires Inv-loop μ-loop
-admit-requires c κs = (rw (← c .before .before .before .part-length .ensures) (c .before .loop-test .taken), c .before .before .before .before .before .before .before .before .before .pre .terminals)
+admit-requires c κs = (rw (← c .before .before .before .part-length .ensures) (c .before .loop-test .taken), c .before .before .before .before .before .before .before .before .before .pre)
 
 returns-2 : tie.Need-returns-2 Inv-loop μ-loop
 returns-2 c =

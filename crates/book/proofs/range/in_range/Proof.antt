@@ -28,7 +28,7 @@ unfolding fits
 returns-2 c = rw (c .before .before .enum-told3 .given .1, le-ltb _ _ (c .if3 .taken))
 
 contains-requires : tie.Need-contains-requires
-contains-requires c κs = omega (arith, c .if3 .left, c .before .before .before .before .pre .1)
+contains-requires c κs = omega (arith, c .if3 .left, c .before .before .before .before .pre .1 .terminals)
 
 rem-action-allowed : tie.Need-rem-action-allowed
 rem-action-allowed c = factor-some _ (c .before .before .before .args .d .s) _ (rw (c .before .enum-told4 .given .1) at (c .before .before .before .pre .0))

@@ -44,10 +44,10 @@ element-write-places c =
 
 add-i : tie.Need-add-i Inv-loop μ-loop
 add-i c =
-    let p = c .before .before .before .before .before .before .before .before .before .before .before .before .before .before .before .before .before .pre in
+    let start = c .before .before .before .before .before .before .before .before .before .before .before .before .before .before .before .before .before in
     let going = c .before .before .before .before .before .before .before .before .before .before .before .before .before .loop .inv .2 in
     let next = sym (c .before .before .before .before .before .before .before .before .before .before .before .before .next-at .ensures) ∙ c .before .before .before .before .before .before .before .before .before .before .e .given .1 in
-    omega (arith, going .number, going-count (p .0 .small .terminals) going next)
+    omega (arith, start .fits .count, going .number, going-count (start .pre .0 .small .terminals) going next)
 
 loop-less : tie.Need-loop-less Inv-loop μ-loop
 loop-less c =

@@ -34,7 +34,7 @@ returns-2 c =
     rw (c .too-short2 .ensures) (count-short (written (countTo (now (a .places)) (now (a .others)) (a .states))) (piecesTo (now (a .first)) (now (a .places)) (now (a .second)) (now (a .others)) (a .states)) (now (a .out)) (c .before .before .before .before .left .given .0 .0) (measured (c .before .before .before .before) .0) (omega (arith, counted (c .before .before))))
 
 write-requires : tie.Need-write-requires
-write-requires c κs = omega (arith, c .before .before .width .ensures, measured (c .before .before .before .before) .0)
+write-requires c κs = (search needs, omega (arith, c .before .before .width .ensures, measured (c .before .before .before .before) .0))
 
 put-pieces-requires : tie.Need-put-pieces-requires
 put-pieces-requires c κs =
@@ -56,9 +56,11 @@ put-list-spec =
     (λ c. search needs)
     (λ c κs. search needs)
     returns
+    (λ c. search needs)
     (λ c κs. search needs)
     (λ c κs. search needs)
     returns-2
+    (λ c. search needs)
     write-requires
     put-pieces-requires
     (λ c. search needs)

@@ -1,4 +1,4 @@
--- `lists::entries::after_length` meets its contract: the symbols, then the lookahead. Assumes nothing.
+-- `lists::entries::after_length` meets its contract: the symbols, the lookahead, then the rest. Assumes nothing.
 use mathlib.Core.Path.{sym, _∙_}
 use Rattle.lists.specs.EntryLaws.{symbols-stop, symbols-on}
 use borrow.Author.Needs.{needs}
@@ -12,7 +12,7 @@ returns-2 : tie.Need-returns-2
 returns-2 c = rw (← c .before .before .before .before .read .ensures, ← c .before .before .before .admit .ensures, c .before .r2 .given .1) at (symbols-on _ _ _ _ _ _ (sym (c .before .before .before .before .before .before .before .before .symbol-row .ensures) ∙ c .before .before .before .before .before .before .next .given .1))
 
 returns-3 : tie.Need-returns-3
-returns-3 c = rw (← c .before .before .before .before .read .ensures, ← c .before .before .before .admit .ensures, c .before .z .given .1) at (symbols-on _ _ _ _ _ _ (sym (c .before .before .before .before .before .before .before .before .symbol-row .ensures) ∙ c .before .before .before .before .before .before .next .given .1))
+returns-3 c = c .after-lookahead .ensures ∙ rw (← c .before .before .before .before .before .read .ensures, ← c .before .before .before .before .admit .ensures, c .before .before .z .given .1) at (symbols-on _ _ _ _ _ _ (sym (c .before .before .before .before .before .before .before .before .before .symbol-row .ensures) ∙ c .before .before .before .before .before .before .before .next .given .1))
 
 pub after-length-spec : {M : Type 1} → statement M
 after-length-spec =
@@ -26,6 +26,7 @@ after-length-spec =
     (λ c. search needs)
     (λ c. search needs)
     (λ c. search needs)
+    (λ c κs. search needs)
     returns
     returns-2
     returns-3)

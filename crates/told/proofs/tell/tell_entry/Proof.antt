@@ -7,10 +7,10 @@ returns : tie.Need-returns
 returns c = rw (c .before .before .e .given .1) (c .tell-refusal .ensures)
 
 returns-2 : tie.Need-returns-2
-returns-2 c = rw (c .before .before .e2 .given .1) (c .few .ensures)
+returns-2 c = rw (c .before .before .e2 .given .1) (c .entry-then .ensures)
 
 returns-3 : tie.Need-returns-3
-returns-3 c = rw (c .before .enum-told .given .1) (c .few2 .ensures)
+returns-3 c = rw (c .before .enum-told .given .1) (c .few .ensures)
 
 pub tell-entry-spec : {M : Type 1} → statement M
 tell-entry-spec =
