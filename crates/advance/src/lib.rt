@@ -1,4 +1,6 @@
 // Advance: the machine's stack right after it has shifted a symbol, without its single reductions.
+#![tactic(auto)]
+
 mod distance;
 mod push;
 

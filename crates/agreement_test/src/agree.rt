@@ -4,7 +4,7 @@ ghost use Rattle.std.specs.Prelude.{◌≤◌};
 use crate::{answers, failing, pops, sentences, tables, verdicts, wrong};
 
 // How many pairs were compared, how many of them differ, and how many could not be compared.
-#[derive(Drop)]
+#[derive(Clone, Copy)]
 pub struct Tally {
     pub compared: usize,
     pub other: usize,

@@ -5,7 +5,7 @@ use crate::tables;
 
 // What the reductions under one symbol come to: the depth of the stack when no more can be done, 0 where they never end; the states
 // that were on top, as a set; and whether the run was followed far enough to know all of these.
-#[derive(Drop)]
+#[derive(Clone, Copy)]
 pub struct Course {
     pub depth: usize,
     pub tops: u32,
@@ -76,7 +76,7 @@ fn shifted(tables: &[u16; 768], stack: &mut [u16; 4096], depth: usize, a: usize)
 }
 
 // A moment of a run: the depth of the stack, the top state and the one below it.
-#[derive(Drop)]
+#[derive(Clone, Copy)]
 struct Mark {
     depth: usize,
     top: u16,

@@ -12,6 +12,8 @@
 // - one in which a pair is reached by 26 symbols and passed until its reduction breaks after 156.
 // The random tables have empty productions, reductions that loop or stack states for ever, missing gotos, and reductions of more states
 // than are stacked.
+#![tactic(auto)]
+
 mod agree;
 mod answers;
 mod breaking;

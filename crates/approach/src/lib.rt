@@ -1,4 +1,6 @@
 // What it costs to go on to a stack on which a reduction breaks.
+#![tactic(auto)]
+
 mod near;
 mod shortest;
 mod sooner;

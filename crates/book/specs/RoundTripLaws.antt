@@ -82,7 +82,7 @@ module _ (source : ℕ → Number) (d : Sizes) where
       let f = parts-front source d part others at vs next e in
       let (mid, p, q) = reads-split f.front f.back (rw f.both at r) in
       let first = reads-row source (fault d part) (part_length d part) [] at f.mid f.first p in
-      rw (first, reads-parts mid next' others f.mid next f.second q, ← f.both)
+      rw (first, reads-parts {vs = f.back} mid next' others f.mid next f.second q, ← f.both)
 
 -- ---- so does a book
 book-other : (source other : ℕ → Number) (end end' : ℕ) (cells : List ℕ) (next next' : ℕ)
@@ -134,11 +134,11 @@ bytes-reads bytes at (v ∷ vs) small e =
     (bytes-reads bytes (at + length (written v)) vs (λ i. small (suc i)) (past bytes at (written v) (bytes_of vs) e)))
 
 -- .. and no others
-reads_bytes : {at next : ℕ} {vs : List ℕ} (bytes : List ℕ) → Bytes bytes → Reads (number_at bytes) at vs next
+reads_bytes : (bytes : List ℕ) {at next : ℕ} {vs : List ℕ} → Bytes bytes → Reads (number_at bytes) at vs next
     → drop at bytes ≡ bytes_of vs ++ drop next bytes
 unfolding number_at
 reads_bytes bytes b none = refl
-reads_bytes {at} {next} bytes b (more {v} {vs} c f r) =
+reads_bytes bytes {at} {next} b (more {v} {vs} c f r) =
     let s = first-stands at (drop at bytes) v c.at (λ i. rw get_or-drop (b (at + i))) f in
     let rest : s.rest ≡ bytes_of vs ++ drop next bytes = sym (past bytes at (written v) s.rest s.whole) ∙ rw s.after at (reads_bytes bytes b r) in
     s.whole ∙ rw (rest, append_assoc)

@@ -1,4 +1,6 @@
 // The table book: read out of bytes, checked, and written.
+#![tactic(auto)]
+
 mod actions;
 mod bytes;
 mod call;
@@ -15,7 +17,7 @@ pub use range::rank_count;
 pub use tables::{action_at, goto_at, left_side, production_length};
 
 // The kinds of action that a cell holds, a shift with its state and a reduction with its production.
-#[derive(Drop)]
+#[derive(Clone, Copy)]
 pub enum Action {
     Error,
     Accept,
@@ -24,7 +26,7 @@ pub enum Action {
 }
 
 // A book's form, and how many terminals, nonterminals, states and productions it has.
-#[derive(Drop)]
+#[derive(Clone, Copy)]
 pub struct Sizes {
     pub form: usize,
     pub t: usize,
@@ -34,7 +36,7 @@ pub struct Sizes {
 }
 
 // The parts of a book in their order, each a row of numbers.
-#[derive(Drop)]
+#[derive(Clone, Copy)]
 pub enum Part {
     Head,
     Productions,
@@ -44,20 +46,20 @@ pub enum Part {
 }
 
 // Which of two slices holds the numbers of a book.
-#[derive(Drop)]
+#[derive(Clone, Copy)]
 pub enum Source {
     Bytes,
     Cells,
 }
 
-#[derive(Drop)]
+#[derive(Clone, Copy)]
 pub enum Checked {
     Valid(Sizes),
     Refused(Refusal),
 }
 
 // How many cells or bytes were written.
-#[derive(Drop)]
+#[derive(Clone, Copy)]
 pub enum Written {
     Count(usize),
     Refused(Refusal),

@@ -135,7 +135,7 @@ module _ {B : Tables} (i : InRange B) where
 -- ---- a run that ends as broken with all of w in shows that w breaks there. The stack is never empty
 never-empty : {B : Tables} {q : ℕ} {st stack left u u' : List ℕ} → stack ≡ q ∷ st → Steps B stack u left u' → left ≢ []
 never-empty i done e = nil≢cons (sym e ∙ i)
-never-empty i (then (shift f) r) e = never-empty refl r e
+never-empty {q = q} i (then (shift {s = s} f) r) e = never-empty {q = s} refl r e
 never-empty {B} {q} {st} i (then (reduce {a} f) r) e = never-empty (next-reduce B q a st (rw i at f)).stack r e
 
 pub run-broken : (B : Tables) (w : List ℕ) (z : ℕ) (stop : Stop) → (runs B z w 0 (0 ∷ [])).0 ≡ Broken stop → stop.taken ≡ length w → Terminals B w → Breaks B w z stop.state

@@ -1,1 +1,2 @@
 // Reductions that break: definitions and laws alone.
+#![tactic(auto)]

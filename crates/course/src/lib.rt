@@ -1,4 +1,6 @@
 // The entries of a list run in turn: the first fault, or the place of the entry that fails in each state.
+#![tactic(auto)]
+
 mod entries;
 
 pub use entries::judge_entries;
@@ -6,7 +8,7 @@ use machine::Ending;
 use number::Refusal;
 
 // The judgement of a list: the first fault with its entry's index, else the lowest state that has a failing pair and no entry, else complete.
-#[derive(Drop)]
+#[derive(Clone, Copy)]
 pub enum Judgement {
     Wrong(usize, Ending),
     OutOfOrder(usize),
@@ -17,14 +19,14 @@ pub enum Judgement {
 }
 
 // One entry: the state in which its run ended, or its fault.
-#[derive(Drop)]
+#[derive(Clone, Copy)]
 enum Verdict {
     Right(u16),
     Fault(Judgement),
 }
 
 // All entries: the first fault, or none.
-#[derive(Drop)]
+#[derive(Clone, Copy)]
 pub enum Faults {
     None,
     First(Judgement),

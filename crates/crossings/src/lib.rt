@@ -1,4 +1,6 @@
 // The crossing table: for each goto, first terminal and following terminal the least cost of crossing it.
+#![tactic(auto)]
+
 mod crossing;
 mod production;
 mod reduction;

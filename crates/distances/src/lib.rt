@@ -1,4 +1,6 @@
 // Distances: from the start to every pair, and from every pair on to pairs that have weights.
+#![tactic(auto)]
+
 mod single_goal;
 mod start;
 mod to_goals;

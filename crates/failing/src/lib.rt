@@ -1,4 +1,6 @@
 // Which pairs fail: error pairs that are reached, and pairs whose reduction breaks.
+#![tactic(auto)]
+
 mod costs;
 mod tests;
 

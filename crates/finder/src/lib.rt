@@ -1,4 +1,6 @@
 // What sequences reach one pair, and with what its reduction breaks.
+#![tactic(auto)]
+
 mod admission;
 mod breaking;
 mod find_pair;
@@ -14,7 +16,7 @@ use number::Refusal;
 pub use prepared::answer;
 
 // What the finder answers for one pair; a sentence stands at the front of the lent buffer.
-#[derive(Drop)]
+#[derive(Clone, Copy)]
 pub enum Found {
     Unreached,
     Long,

@@ -1,4 +1,6 @@
 // The forms of a book: the converters, the plain cells that all tables are read from, and the terminals by rank.
+#![tactic(auto)]
+
 mod cells;
 mod converters;
 mod order;

@@ -1,4 +1,6 @@
 // Two lists of one book joined.
+#![tactic(auto)]
+
 mod join;
 
 use course::Judgement;
@@ -6,7 +8,7 @@ pub use join::join_lists;
 use number::Refusal;
 
 // Which of the two lists.
-#[derive(Drop)]
+#[derive(Clone, Copy)]
 pub enum Which {
     First,
     Second,
@@ -14,7 +16,7 @@ pub enum Which {
 
 // How many bytes the joined list has; or the first fault, as a judgement tells it, and whose it is; or the refusal, of book and lent bytes or of a
 // list.
-#[derive(Drop)]
+#[derive(Clone, Copy)]
 pub enum Joined {
     Count(usize),
     Fault(Which, Judgement),

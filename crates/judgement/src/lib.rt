@@ -1,4 +1,6 @@
 // The judgement of a list of sentences.
+#![tactic(auto)]
+
 mod admission;
 mod coverage;
 mod whole;

@@ -1,4 +1,6 @@
 // Layers: the least costs to stand at each state and next terminal after a number of transitions.
+#![tactic(auto)]
+
 mod leaving;
 mod opening;
 mod row;

@@ -1,4 +1,6 @@
 // The least cost of a word with which a reduction breaks, for every pair that reduces.
+#![tactic(auto)]
+
 mod ahead;
 mod layer;
 mod lengths;
@@ -8,7 +10,7 @@ mod starts;
 pub use lengths::break_lengths;
 
 // What a reduction that breaks misses: the goto under a nonterminal in the state that it uncovers, or states to pop.
-#[derive(Drop)]
+#[derive(Clone, Copy)]
 enum Missing {
     Goto(usize),
     States,

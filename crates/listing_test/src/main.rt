@@ -1,6 +1,8 @@
 // Listings at and past the limits, of what is no book, of books in which reductions break, and of an input that is longer than the program
 // reads. In standard input stand a book of 326 bytes, whose last state takes 1,024 symbols, one of 253 bytes, in which a reduction breaks
 // after 1,000 symbols and another after 1,001, and zeros up to 70,000 bytes.
+#![tactic(auto)]
+
 mod breaks;
 mod ring;
 

@@ -1,4 +1,6 @@
 // Lists of sentences: checked against a book, and read entry by entry.
+#![tactic(auto)]
+
 mod entries;
 mod index;
 mod list;
@@ -13,7 +15,7 @@ pub use range::admit;
 pub use reading::{next_entry, remaining, start};
 
 // One entry of a list: where its symbols begin, how many there are, its lookahead and its article number.
-#[derive(Drop)]
+#[derive(Clone, Copy)]
 pub struct Entry {
     pub start: usize,
     pub len: usize,
@@ -22,35 +24,35 @@ pub struct Entry {
 }
 
 // The entry at an offset, with the offset after it.
-#[derive(Drop)]
+#[derive(Clone, Copy)]
 pub enum Step {
     Found(Entry, Cursor),
     Refused(Refusal),
 }
 
 // The rest of a list: where its next entry begins, and how many are left.
-#[derive(Drop)]
+#[derive(Clone, Copy)]
 pub struct Rest {
     pub at: usize,
     pub left: usize,
 }
 
 // A list that was checked whole.
-#[derive(Drop)]
+#[derive(Clone, Copy)]
 pub enum Listing {
     Entries(Rest),
     Refused(Refusal),
 }
 
 // The next entry of a checked list, with the rest after it; none after the last.
-#[derive(Drop)]
+#[derive(Clone, Copy)]
 pub enum Next {
     Found(Entry, Rest),
     None,
 }
 
 // Where a reader stands at first, and the refusal's number and place; number 0 for none.
-#[derive(Drop)]
+#[derive(Clone, Copy)]
 pub struct Opened {
     pub at: usize,
     pub left: usize,
@@ -59,7 +61,7 @@ pub struct Opened {
 }
 
 // A reader over a list: the list, where its next entry begins, how many are left, and the refusal's number and place; number 0 for none.
-#[derive(Drop)]
+#[derive(Clone, Copy)]
 pub struct Reader<'a> {
     pub list: &'a [u8],
     pub at: usize,
@@ -69,14 +71,14 @@ pub struct Reader<'a> {
 }
 
 // What a reader gives.
-#[derive(Drop)]
+#[derive(Clone, Copy)]
 pub enum Given {
     Found(Entry),
     None,
 }
 
 // What a reader gives, with the rest after it.
-#[derive(Drop)]
+#[derive(Clone, Copy)]
 pub struct Turn {
     pub given: Given,
     pub at: usize,
@@ -84,7 +86,7 @@ pub struct Turn {
 }
 
 // One entry of a list, none, or the refusal of the book or the list.
-#[derive(Drop)]
+#[derive(Clone, Copy)]
 pub enum Nth {
     Found(Entry),
     None,

@@ -1,1 +1,2 @@
 // How long a book and a list can be: laws alone.
+#![tactic(auto)]

@@ -1,6 +1,6 @@
 -- Laws of the machine: a step is a function, what a step comes from, and which symbols are taken in. Assumes nothing.
 use Rattle.std.specs.Prelude.{◌≡◌, List, [], ◌∷◌, ◌++◌, ◌⊎◌, ℕ, zero, suc, ◌≤◌, ◌<◌, length, get_or, drop}
-use Rattle.std.proofs.Math.Path.{refl}
+use Rattle.std.proofs.Math.Path.{refl, ap}
 use Rattle.std.proofs.lemmas.List.{append_cancel_right}
 use Rattle.std.proofs.Common.{inl, inr, ⊎_elim, le_refl, arith}
 use Rattle.book.specs.Tables.{Tables}
@@ -114,9 +114,14 @@ module _ {B : Tables} where
   steps-after r r' h = ⊎_elim (λ x. x) (λ x. absurd (omega (arith, steps-input x))) (steps-det r r')
 
   -- 'no state shifts' the end mark: what is taken in lies in 1 .. T - 1
+  taken-from : InRange B → {st st' v u : List ℕ} (a : ℕ) → Step B st v st' u → v ≡ a ∷ u → (1 ≤ a) × (a < B.terminals)
+  taken-from i a (shift {st = []} {a = b} e) h = absurd (clash (cc (next-empty B b)))
+  taken-from i a (shift {st = q ∷ st} {a = b} {s} e) h =
+      let same : b ≡ a = cc in let k = i.shifts q b s (next-shift B q b st e) in rw (← same) (k.1, k.2)
+  taken-from i a (reduce {u = u} {a = b} e) h = absurd (omega (arith, ap length h))
+
   pub taken-terminal : InRange B → {st st' u : List ℕ} {a : ℕ} → Step B st (a ∷ u) st' u → (1 ≤ a) × (a < B.terminals)
-  taken-terminal i (shift {st = []} {a} e) = absurd (clash (cc (next-empty B a)))
-  taken-terminal i (shift {st = q ∷ st} {a} {s} e) = let h = i.shifts q a s (next-shift B q a st e) in (h.1, h.2)
+  taken-terminal i {a = a} s = taken-from i a s refl
 
   takes : InRange B → {st x st' u : List ℕ} (w : List ℕ) → x ≡ w ++ u → Steps B st x st' u → Terminals B w
   takes i {u} w e done = rw (← append_cancel_right [] w u e) none

@@ -1,4 +1,6 @@
 // A run of the machine.
+#![tactic(auto)]
+
 mod admission;
 mod driver;
 mod looks;
@@ -17,14 +19,14 @@ pub use reductions::REDUCTIONS;
 pub const DEPTH: usize = 1024;
 
 // Where a run ended: the top state, the symbol looked at and how many were taken in.
-#[derive(Drop)]
+#[derive(Clone, Copy)]
 pub struct Stop {
     pub state: u16,
     pub symbol: u16,
     pub taken: usize,
 }
 
-#[derive(Drop)]
+#[derive(Clone, Copy)]
 pub enum Ending {
     Accepted(Stop),
     Error(Stop),
@@ -34,14 +36,14 @@ pub enum Ending {
     Spinning(Stop),
 }
 
-#[derive(Drop)]
+#[derive(Clone, Copy)]
 pub enum Ran {
     Ended(Ending),
     Refused(Refusal),
 }
 
 // What the machine does next; a reduction keeps the lowest states, as many as its first number says, and pushes the second.
-#[derive(Drop)]
+#[derive(Clone, Copy)]
 pub enum Seen {
     Accept,
     Error,
@@ -51,7 +53,7 @@ pub enum Seen {
 }
 
 // What comes of it under the limits.
-#[derive(Drop)]
+#[derive(Clone, Copy)]
 enum Turn {
     Ended(Ending),
     Shift(u16),
@@ -59,14 +61,14 @@ enum Turn {
 }
 
 // What comes of the reductions before a symbol, with the depth of the stack.
-#[derive(Drop)]
+#[derive(Clone, Copy)]
 enum Paused {
     Ended(Ending, usize),
     Shift(u16, usize),
 }
 
 // What comes of a symbol of the sentence: the run ends at a depth, or goes on at one.
-#[derive(Drop)]
+#[derive(Clone, Copy)]
 pub enum Entered {
     Ended(Ending, usize),
     Depth(usize),

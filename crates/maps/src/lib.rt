@@ -1,4 +1,6 @@
 // What sequences reach, for all pairs at once: the whole map, the sets.
+#![tactic(auto)]
+
 mod admission;
 mod reached_sets;
 mod rows;

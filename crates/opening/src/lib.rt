@@ -1,4 +1,6 @@
 // What comes before the lines of a listing.
+#![tactic(auto)]
+
 mod opening;
 
 pub use opening::prepare;

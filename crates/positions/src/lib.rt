@@ -1,4 +1,6 @@
 // Positions: the states in which layers are wanted, by how many transitions lead there.
+#![tactic(auto)]
+
 mod position;
 mod production;
 

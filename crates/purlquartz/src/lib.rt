@@ -1,5 +1,7 @@
 // The library for C and Rust: each public call under a C name, with its answer as eight numbers. The first is the kind, 0 for a refusal; the
 // others are its values, 0 where there is none.
+#![tactic(auto)]
+
 mod books;
 mod certificates;
 mod entries;

@@ -1,4 +1,6 @@
 // Keeps a reader over whole lists, and prints what it gives and how many remain, turn by turn.
+#![tactic(auto)]
+
 mod show;
 mod turns;
 

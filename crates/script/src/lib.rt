@@ -2,6 +2,8 @@
 // a comment after '#', which is printed as it stands, or a word with numbers: it makes the book or the bytes of the calls after it (make.rt), or is
 // a call of the library for C, which the program makes. For many calls at once: lists in many orders and splits (entries.rt), and answers in rows
 // (rows.rt).
+#![tactic(auto)]
+
 pub mod entries;
 mod lent;
 mod lines;
@@ -18,7 +20,7 @@ pub use lines::{Line, next, start};
 pub use numbers::{ARGS, cell, size};
 
 // How many cells the book has that was given, and as it was changed since; and how many bytes there are.
-#[derive(Drop)]
+#[derive(Clone, Copy)]
 pub struct Lengths {
     pub given: usize,
     pub cells: usize,

@@ -7,7 +7,7 @@ use crate::make::make;
 use crate::numbers::read;
 
 // A line that was read: where its word stands, how many numbers it has, how much the calls are given after it, and where the next line begins.
-#[derive(Drop)]
+#[derive(Clone, Copy)]
 pub struct Line {
     pub start: usize,
     pub end: usize,

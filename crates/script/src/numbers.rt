@@ -5,7 +5,7 @@ ghost use Rattle.std.specs.Prelude.{◌≤◌, ◌<◌, length};
 pub const ARGS: usize = 17600;
 
 // A number that is being read: how often it stands there, 0 while it has no digit, and its digits as a decimal and a hexadecimal number.
-#[derive(Drop)]
+#[derive(Clone, Copy)]
 struct Partial {
     times: u32,
     given: u32,

@@ -1,4 +1,6 @@
 // All pairs in one call, from one crossing table: the map, and the sentence of each pair that has one.
+#![tactic(auto)]
+
 mod admission;
 mod all_pairs;
 mod costs;

@@ -1,4 +1,6 @@
 // The answers of the public calls as eight numbers, for callers in other languages.
+#![tactic(auto)]
+
 mod tell;
 
 pub use tell::{

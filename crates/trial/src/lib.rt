@@ -1,4 +1,6 @@
 // What the test programs share: the words of a line, and the parts of standard input.
+#![tactic(auto)]
+
 mod parts;
 mod words;
 
@@ -6,7 +8,7 @@ pub use parts::part_at;
 pub use words::{bytes, label, line, refusal, text, word};
 
 // A part of some bytes, from start to end.
-#[derive(Drop)]
+#[derive(Clone, Copy)]
 pub struct Part {
     pub start: usize,
     pub end: usize,

@@ -1,5 +1,7 @@
 // Runs the vectors in standard input that are for books, runs, pairs, maps, sets and certificates (those for lists: list_vectors). The crate
 // script says what a line is; a call's answer and lent memory are printed on one line (calls.rt).
+#![tactic(auto)]
+
 mod calls;
 mod certificates;
 

@@ -63,7 +63,7 @@ module _ {σ : Scale} {B : Tables} {claim : Claims} where
   stands-bounded (falls {u} d s p e l j) = rw p.sum (plus-bounded σ u p.taken)
 
   -- two ways down, one after the other
-  stands-below : {q a d g b u j g' c w : ℕ} {st : List ℕ} (m : ℕ) → m ≡ d + (j - 1) → Stands σ B claim q st a (suc d) g b u → Stands σ B claim g (drop d st) b j g' c w
+  stands-below : {q a d g b u : ℕ} {st : List ℕ} {j g' c w : ℕ} (m : ℕ) → m ≡ d + (j - 1) → Stands σ B claim q st a (suc d) g b u → Stands σ B claim g (drop d st) b j g' c w
       → Stands σ B claim q st a (suc m) g' c (plus σ u w)
   stands-below {d} {u} m i s top = let k : m ≡ d = omega arith in rw (k, plus-zero σ u (stands-bounded s)) s
   stands-below {d} {u} {st} m i s (falls {i = j} {u = u₁} {w} {g'} e s' p f l t) =
@@ -88,10 +88,10 @@ module _ {σ : Scale} {B : Tables} {claim : Claims} where
 
   module _ {End : ℕ → List ℕ → ℕ → ℕ → ℕ → Type 0} where
     -- the way on from where the machine stands is a way on from the stack
-    stands_after : {q a i g b u x : ℕ} {st : List ℕ} → Stands σ B claim q st a i g b u → ClaimedDescends σ B claim End (g ∷ drop (i - 1) st) b x → x ≤ unreached σ
+    stands_after : {q a : ℕ} {st : List ℕ} {i g b u x : ℕ} → Stands σ B claim q st a i g b u → ClaimedDescends σ B claim End (g ∷ drop (i - 1) st) b x → x ≤ unreached σ
         → ClaimedDescends σ B claim End (q ∷ st) a (plus σ u x)
     stands_after {x} top c h = rw (zero-plus σ x h) c
-    stands_after {x} {st} (falls {i} {g = g₁} {b} {u} {k} {c = b₂} {g'} d s p e l j) c h =
+    stands_after {st} {x} (falls {i} {g = g₁} {b} {u} {k} {c = b₂} {g'} d s p e l j) c h =
         let rest : ClaimedDescends σ B claim End (g' ∷ get_or st d 0 ∷ drop (suc d) st) b₂ x = subst (λ (t : List ℕ). ClaimedDescends σ B claim End (g' ∷ t) b₂ x) (kept st d l) c in
         let y : ClaimedDescends σ B claim End (g₁ ∷ drop (i - 1) st) b (plus σ p.taken x) = popping {g = g'} k p.walk p.action p.longer (uncovered st i k d e l) (rw p.left j) rest in
         rw (p.sum, plus_assoc) (stands_after s y (plus-bounded σ p.taken x))
@@ -149,7 +149,7 @@ module _ {B : Tables} where
   }
 
 module _ {σ : Scale} {B : Tables} {claim : Claims} where
-  pub stands-comes : {q a i g b u : ℕ} {st : List ℕ} → Witnessed σ B claim → Stands σ B claim q st a i g b u → Attained σ (Comes B q st a i g b) u
+  pub stands-comes : {q a : ℕ} {st : List ℕ} {i g b u : ℕ} → Witnessed σ B claim → Stands σ B claim q st a i g b u → Attained σ (Comes B q st a i g b) u
   stands-comes k top = inr ([], record { starts = λ u. (u, refl); run = λ u. done }, omega arith)
   stands-comes k (falls {k = m} d s p e l j) =
       rw p.sum (attained-plus σ (λ x y r w. comes-falls m r w p.action p.left p.longer e l j) (stands-comes k s) (witnessed-above k p.walk))

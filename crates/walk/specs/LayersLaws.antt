@@ -37,7 +37,7 @@ module _ {σ : Scale} {B : Tables} {claim : Claims} where
       low (shifting {t} z c e h) i m = le_trans (m _ (add-shift z (claimed-next c) e h)) (plus-mono σ (nearer (shift_cost σ t) c (by-shift e) i) (le_refl _))
       low (crossing {b} {q₁} X z c g h) i m = le_trans (m _ (add-goto X b z (claimed-next c) g h)) (plus-mono σ (nearer (claim q₁ X b z) c (by-goto g) i) (le_refl _))
 
-      up : {v q' z : ℕ} → Longer σ B claim L q' z v → (v ≡ unreached σ) ⊎ Claimed σ B claim q a v z (suc n) q'
+      up : {q' z v : ℕ} → Longer σ B claim L q' z v → (v ≡ unreached σ) ⊎ Claimed σ B claim q a v z (suc n) q'
       up (add-shift {q₁} {t} z k e h) = ⊎_elim (λ i. inl (plus-far-left σ _ _ (omega arith))) (λ c. inr (shifting z c e h)) (l q₁ t k).attained
       up (add-goto {q₁} X b z k g h) = ⊎_elim (λ i. inl (plus-far-left σ _ _ (omega arith))) (λ c. inr (crossing X z c g h)) (l q₁ b k).attained
 
@@ -71,7 +71,7 @@ module _ {σ : Scale} {B : Tables} {claim : Claims} where
       out (add-goto {q₁} X b z k g h) = subst (Longer σ B claim L _ z) (sym (plus-cut σ (L q₁ b) (claim q₁ X b z))) (add-goto X b z k g h)
 
   -- the same for walks alone, while claims are still being lowered
-  pub walk-longer : {q a n q' z v : ℕ} {L : ℕ → ℕ → ℕ} → Witnessed σ B claim → ((q₁ b : ℕ) → b < B.terminals → Attained σ (λ w. Walk B q a w b n q₁) (L q₁ b))
+  pub walk-longer : {q a n q' z : ℕ} {L : ℕ → ℕ → ℕ} {v : ℕ} → Witnessed σ B claim → ((q₁ b : ℕ) → b < B.terminals → Attained σ (λ w. Walk B q a w b n q₁) (L q₁ b))
       → Longer σ B claim L q' z v → Attained σ (λ w. Walk B q a w z (suc n) q') v
   walk-longer k l (add-shift {q₁} {t} z i e h) = attained-shift σ z (l q₁ t i) e
   walk-longer k l (add-goto {q₁} X b z i g h) = attained-cross σ (l q₁ b i) (k.witness q₁ X b z i h g) g
@@ -98,10 +98,10 @@ module _ {σ : Scale} {B : Tables} {claim : Claims} where
 
     goal-below : {q a v z s : ℕ} (n : ℕ) → a < B.terminals → Start σ B claim q a v z n s → G q a ≤ plus σ v (weight s z)
     goal-below {q} {a} zero h nowhere = omega (arith, zero-plus σ (G q a) (goal-most q a h), plus-mono σ (le_refl 0) (f.goal q a h))
-    goal-below (suc n) h (shift-first {b} e c) =
-        rw plus_assoc (le_trans (f.closed _ _ _ h (from-shift b e (claimed-terminal c))) (plus-mono σ (le_refl _) (goal-below n (claimed-terminal c) (claimed-start c))))
-    goal-below (suc n) h (goto-first {b} X g c) =
-        rw plus_assoc (le_trans (f.closed _ _ _ h (from-goto X b g (claimed-terminal c))) (plus-mono σ (le_refl _) (goal-below n (claimed-terminal c) (claimed-start c))))
+    goal-below {q = q} (suc n) h (shift-first {q₁} {b} e c) =
+        rw plus_assoc (le_trans (f.closed _ _ _ h (from-shift b e (claimed-terminal c))) (plus-mono σ (le_refl _) (goal-below {q = q₁} n (claimed-terminal c) (claimed-start c))))
+    goal-below {q = q} (suc n) h (goto-first {q₁} {b} X g c) =
+        rw plus_assoc (le_trans (f.closed _ _ _ h (from-goto X b g (claimed-terminal c))) (plus-mono σ (le_refl _) (goal-below {q = q₁} n (claimed-terminal c) (claimed-start c))))
 
     pub goal-least : {q a : ℕ} → a < B.terminals → Least σ (OnwardTo σ B claim (Weighs weight) q a) (G q a)
     goal-least {q} {a} h = record { below = λ v o. rw (o.sum, o.done) (goal-below o.count h (claimed-start o.walk)); attained = f.attained q a h }

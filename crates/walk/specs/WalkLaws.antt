@@ -98,20 +98,20 @@ module _ {B : Tables} where
   walk-chain (shifted {q₁} z r e) st = let (st₁, c) = walk-chain r st in (q₁ ∷ st₁, push c (shifted z here e))
   walk-chain (crossed {q₁} r r' e l g) st = let (st₁, c) = walk-chain r st in (q₁ ∷ st₁, push c (crossed here r' e l g))
 
-  pub chain-walk : {q a z n q' : ℕ} {w st st' : List ℕ} → Chain B q st a w z n q' st' → Walk B q a w z n q'
+  pub chain-walk : {q a : ℕ} {st : List ℕ} {z n q' : ℕ} {w st' : List ℕ} → Chain B q st a w z n q' st' → Walk B q a w z n q'
   chain-walk base = here
   chain-walk (push c r) = rw (← add-one) (walk-append (chain-walk c) r)
 
-  pub chain-append : {q a b z n q₁ m q₂ : ℕ} {w v st st₁ st₂ : List ℕ} → Chain B q st a w b n q₁ st₁ → Chain B q₁ st₁ b v z m q₂ st₂ → Chain B q st a (w ++ v) z (n + m) q₂ st₂
+  pub chain-append : {q a b n q₁ : ℕ} {w st st₁ : List ℕ} {z m q₂ : ℕ} {v st₂ : List ℕ} → Chain B q st a w b n q₁ st₁ → Chain B q₁ st₁ b v z m q₂ st₂ → Chain B q st a (w ++ v) z (n + m) q₂ st₂
   chain-append c base = rw (append-nil, add-zero) c
   chain-append c (push d r) = rw (← append_assoc, add-suc) (push (chain-append c d) r)
 
   -- it is run so, and n states lie above the first stack
-  pub chain_runs : {q a z n q' : ℕ} {w st st' : List ℕ} → Chain B q st a w z n q' st' → (u : List ℕ) → Steps B (q ∷ st) (w ++ (z ∷ u)) (q' ∷ st') (z ∷ u)
+  pub chain_runs : {q a : ℕ} {st : List ℕ} {z n q' : ℕ} {w st' : List ℕ} → Chain B q st a w z n q' st' → (u : List ℕ) → Steps B (q ∷ st) (w ++ (z ∷ u)) (q' ∷ st') (z ∷ u)
   chain_runs base u = done
   chain_runs (push {st₁} c r) u = let (u', e) = walk-starts r u in rw (append_assoc, e) (chain_runs c u' ⊕ rw e at (walk-pushes r st₁ u))
 
-  pub chain-under : {q a z n q' : ℕ} {w st st' : List ℕ} → Chain B q st a w z n q' st' → drop n (q' ∷ st') ≡ q ∷ st
+  pub chain-under : {q a : ℕ} {st : List ℕ} {z n q' : ℕ} {w st' : List ℕ} → Chain B q st a w z n q' st' → drop n (q' ∷ st') ≡ q ∷ st
   chain-under base = refl
   chain-under (push c r) = chain-under c
 
@@ -169,7 +169,7 @@ module _ {B : Tables} where
   gets-starts g u = descends-starts (λ q st a w n r. walk-starts r) g u
 
   -- 5. from any stack, what is described is run ..
-  pub lands-runs : {s z a : ℕ} {below st w : List ℕ} → Lands B s z below st a w → (u : List ℕ) → Steps B st (w ++ (z ∷ u)) (s ∷ below) (z ∷ u)
+  pub lands-runs : {s z : ℕ} {below : List ℕ} {a : ℕ} {st w : List ℕ} → Lands B s z below st a w → (u : List ℕ) → Steps B st (w ++ (z ∷ u)) (s ∷ below) (z ∷ u)
   lands-runs (arrives c) u = chain_runs c u
   lands-runs (pops {st} k r e l d g c) u =
       let (u', f) = gets-starts (lands-gets c) u in
@@ -184,21 +184,21 @@ module _ {B : Tables} where
   unfed (then a r) = elim a [ ]
 
   -- .. and what is run is described. The run keeps the stack a chain; a reduction that pops below the chain starts another
-  reach : {q a t n top s z : ℕ} {w st stk stack x below u : List ℕ} → Chain B q st a w t n top stk → stack ≡ top ∷ stk → Steps B stack (t ∷ x) (s ∷ below) (z ∷ u)
+  reach : {s z t : ℕ} {stack x below u : List ℕ} {q a n top : ℕ} {w st stk : List ℕ} → Chain B q st a w t n top stk → Steps B stack (t ∷ x) (s ∷ below) (z ∷ u) → stack ≡ top ∷ stk
       → (v : List ℕ) × (t ∷ x ≡ v ++ (z ∷ u)) × Lands B s z below (q ∷ st) a (w ++ v)
-  reach {top} {s} {stk} {below} c i done =
+  reach {s} {below} {top} {stk} c done i =
       let j : top ≡ s = cc in
       let k : stk ≡ below = cc in
       ([], refl, rw append-nil (arrives (rw (j, k) at c)))
-  reach c i (then (shift {u = []} f) r) = absurd (unfed r)
-  reach {top} {stk} c i (then (shift {u = t' ∷ x'} {a = t} {s = s₁} f) r) =
-      let (v, j, k) = reach (push c (shifted t' here (next-shift B top t stk (rw i at f)))) (ap (λ (l : List ℕ). s₁ ∷ l) i) r in
+  reach c (then (shift {u = []} f) r) i = absurd (unfed r)
+  reach {top} {stk} c (then (shift {u = t' ∷ x'} {a = t} {s = s₁} f) r) i =
+      let (v, j, k) = reach (push c (shifted t' here (next-shift B top t stk (rw i at f)))) r (ap (λ (l : List ℕ). s₁ ∷ l) i) in
       (t ∷ v, ap (λ (l : List ℕ). t ∷ l) j, rw append_assoc at k)
-  reach {top} {stk} c i (then (reduce {a = t} f) r) =
+  reach {top} {stk} c (then (reduce {a = t} f) r) i =
       let d = next-reduce B top t stk (rw i at f) in
       ⊎_elim
-      (λ m. let (v, j, k) = reach {n = suc m.j} {w = m.w₁ ++ m.w₂} (push m.rest (crossed here m.walk d.action refl d.transition)) d.stack r in (v, j, rw m.whole k))
-      (λ m. let (v, j, k) = reach base d.stack r in (v, j, pops m.k (chain-walk c) d.action m.count m.under d.transition k))
+      (λ m. let (v, j, k) = reach {n = suc m.j} {w = m.w₁ ++ m.w₂} (push m.rest (crossed here m.walk d.action refl d.transition)) r d.stack in (v, j, rw m.whole k))
+      (λ m. let (v, j, k) = reach base r d.stack in (v, j, pops m.k (chain-walk c) d.action m.count m.under d.transition k))
       (pop (B.len d.production) c d.left)
 
   -- an empty stack goes nowhere
@@ -209,8 +209,8 @@ module _ {B : Tables} where
   pub runs-lands : {s z : ℕ} {st below u : List ℕ} (w : List ℕ) → Steps B st (w ++ (z ∷ u)) (s ∷ below) (z ∷ u) → Lands B s z below st (first w z) w
   unfolding first
   runs-lands {st = []} w r = absurd (bare r)
-  runs-lands {z} {st = q ∷ st} {u} [] r = let (v, f, c) = reach base refl r in rw (append_cancel_right [] v (z ∷ u) f) c
-  runs-lands {z} {st = q ∷ st} {u} (t ∷ w) r = let (v, f, c) = reach base refl r in rw (append_cancel_right (t ∷ w) v (z ∷ u) f) c
+  runs-lands {z} {st = q ∷ st} {u} [] r = let (v, f, c) = reach base r refl in rw (append_cancel_right [] v (z ∷ u) f) c
+  runs-lands {z} {st = q ∷ st} {u} (t ∷ w) r = let (v, f, c) = reach base r refl in rw (append_cancel_right (t ∷ w) v (z ∷ u) f) c
 
   pub runs-gets : {s z : ℕ} {st below u : List ℕ} (w : List ℕ) → Steps B st (w ++ (z ∷ u)) (s ∷ below) (z ∷ u) → Gets B s z st (first w z) w
   runs-gets w r = lands-gets (runs-lands w r)

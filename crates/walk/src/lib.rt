@@ -1,4 +1,6 @@
 // Arithmetic of capped costs, and cells that hold them.
+#![tactic(auto)]
+
 ghost use Rattle.std.specs.Prelude.{◌≡◌, ◌+◌, ◌≤◌, min, max, length};
 ghost use Rattle.walk.specs.Scale.{plain};
 ghost use Rattle.walk.specs.Sum.{plus};

@@ -1,4 +1,6 @@
 // The work cells that a search is lent: how many it needs, and that they are left zero.
+#![tactic(auto)]
+
 ghost use Rattle.std.specs.Prelude.{◌≡◌, ◌≤◌, length, replicate};
 ghost use Rattle.number.specs.Lent.{over};
 ghost use Rattle.book.specs.RangeLaws.{Small};

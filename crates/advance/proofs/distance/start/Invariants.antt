@@ -1,0 +1,13 @@
+use Prim.Native.Nat.{◌-◌, ◌≤◌}
+use native.Mathlib.Nat.{le_antisymm}
+use native.Mathlib.Omega.{arith}
+use Rattle.book.specs.Tables.{tables_of}
+use Rattle.advance.specs.Round.{Started}
+use Rattle.advance.specs.RoundLaws.{started_none, started-more}
+use Rattle.advance.proofs.distance.start.Given as goal
+
+abbrev pub invariant-loop-q : goal.invariant-loop-q
+invariant-loop-q l = (l.q ≤ l.states) × Started (tables_of l.cells) l.a l.q l.to
+
+abbrev pub decreases-loop-q : goal.decreases-loop-q
+decreases-loop-q l = l.states - l.q

@@ -1,0 +1,23 @@
+-- `advance::distance::toward` meets its contract. Assumes nothing.
+use Prim.Native.Nat.{ℕ, ◌-◌, ◌≤◌, ◌<◌}
+use native.Mathlib.Omega.{arith}
+use borrow.Author.Count.{below_none, below_more}
+use Rattle.book.specs.Tables.{tables_of}
+use Rattle.layers.specs.Crossing.{claim_in}
+use Rattle.advance.specs.Nearest.{LeadsTo}
+use Rattle.advance.proofs.distance.toward.Goals as goal
+
+pub loop-x-init : goal.loop-x-init
+loop-x-init c = (omega arith, below_none _)
+
+pub returns-then-leads : goal.returns-then-leads
+returns-then-leads c =
+    record { within = omega (arith, c.loop-x-test.true); found = λ h. c.leads.ensures.leads_to c.if-leads.true; before = c.loop-x.invariant.1 }
+
+pub loop-x-preserved : goal.loop-x-preserved
+loop-x-preserved c =
+    (omega (arith, c.loop-x-test.true), below_more _ _ c.loop-x.invariant.1 (c.leads.ensures.not_leads_to c.if-leads.false))
+
+pub returns : goal.returns
+returns c =
+    record { within = omega arith; found = λ h. absurd (omega arith); before = λ k h. c.loop-x.invariant.1 k (omega (arith, c.loop-x-test.false)) }

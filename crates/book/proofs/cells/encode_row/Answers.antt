@@ -1,0 +1,25 @@
+-- `book::cells::encode_row` meets its contract: the cells are written one by one. Assumes nothing.
+use native.Mathlib.Omega.{arith}
+use Prim.Native.Nat.{◌-◌, ◌≤◌}
+use mathlib.Core.Path.{◌≡◌, ◌∙◌}
+use lib.ListN.{length}
+use Rattle.book.specs.BytesLaws.{Encoded, encoded-none, encoded-fits, encoded-more, encoded-done}
+use borrow.Author.Rules.{rules}
+use Rattle.book.proofs.cells.encode_row.Goals as goal
+
+pub loop-i-init : goal.loop-i-init
+loop-i-init c = (omega arith, search rules, encoded-none)
+
+pub write-at-requires : goal.write-at-requires
+write-at-requires c =
+    record {
+      n_bound = omega (arith, c.shared_slice_known-in-loop-i-1.given c.loop-i.i);
+      n_in_bounds = rw c.loop-i.invariant.1 (encoded-fits c.loop-i.invariant.2 c.loop-i-test.true c.requires);
+    }
+
+pub loop-i-preserved : goal.loop-i-preserved
+loop-i-preserved c =
+    (omega arith, c.write-at.auto.bytes ∙ c.loop-i.invariant.1, encoded-more c.loop-i.invariant.2 c.loop-i-test.true c.requires c.write-at.ensures.0 c.write-at.ensures.1)
+
+pub returns : goal.returns
+returns c = encoded-done c.loop-i.invariant.2 c.loop-i-test.false

@@ -1,0 +1,14 @@
+use mathlib.Core.Path.{sym, ◌∙◌}
+use native.Mathlib.Omega.{arith}
+use Prim.Native.Nat.{◌-◌, ◌≤◌}
+use Rattle.book.specs.PartsLaws.{numbers}
+use Rattle.book.specs.Range.{fault}
+use Rattle.book.specs.SeenLaws.{Marks, marks-none, marks-more, marks-admitted}
+use Rattle.book.specs.RowLaws.{Turns, turns-none, turns_more, turns-stop, turns-done}
+use Rattle.book.proofs.parts.part_row.Given as goal
+
+abbrev pub invariant-loop-i : goal.invariant-loop-i
+invariant-loop-i l = (l.i ≤ l.n) × (t : Turns (numbers l.source l.bytes l.cells) (fault l.d l.part) l.n l.initial.at l.i l.at) × Marks l.part l.ranks t.seen
+
+abbrev pub decreases-loop-i : goal.decreases-loop-i
+decreases-loop-i l = l.n - l.i

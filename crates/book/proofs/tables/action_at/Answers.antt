@@ -1,0 +1,11 @@
+-- `book::tables::action_at` meets its contract. Assumes nothing.
+use native.Mathlib.Omega.{arith}
+use mathlib.Core.Path.{sym, ◌∙◌}
+use Prim.Native.Nat.{◌+◌, ◌*◌, ◌<◌}
+use Rattle.book.specs.IndexLaws.{index_below}
+use Rattle.book.specs.TablesLaws.{act-inside}
+use Rattle.book.proofs.tables.action_at.Goals as goal
+
+pub returns : goal.returns
+returns c =
+    c.decode.ensures ∙ sym (act-inside c.requires.holds _ _ c.requires.q_lt_s.0 c.requires.q_lt_s.1)

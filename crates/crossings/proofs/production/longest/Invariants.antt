@@ -1,0 +1,13 @@
+use native.Mathlib.Omega.{arith}
+use Prim.Native.Nat.{◌-◌, ◌≤◌}
+use native.Mathlib.Nat.{le_antisymm}
+use Rattle.book.specs.Tables.{tables_of}
+use Rattle.crossings.specs.Pass.{LongestFrom}
+use Rattle.crossings.specs.CrossingsLaws.{longest-from-more}
+use Rattle.crossings.proofs.production.longest.Given as goal
+
+abbrev pub invariant-loop-p : goal.invariant-loop-p
+invariant-loop-p l = (l.p ≤ l.n) × LongestFrom (tables_of l.cells) l.q l.p l.r
+
+abbrev pub decreases-loop-p : goal.decreases-loop-p
+decreases-loop-p l = l.n - l.p

@@ -1,0 +1,20 @@
+use native.Mathlib.Omega.{arith}
+use Prim.Native.Nat.{◌-◌, ◌≤◌, ◌<◌}
+use lib.ListN.{get_or}
+use Rattle.book.specs.Tables.{tables_of}
+use Rattle.walk.specs.Scale.{plain}
+use Rattle.layers.specs.Layer.{value_in}
+use Rattle.layers.specs.Crossing.{claim_in}
+use Rattle.layers.specs.States.{listed_in}
+use Rattle.crossings.specs.Falling.{Pass, Each}
+use Rattle.crossings.specs.Pass.{ReductionSettled, TableKept}
+use Rattle.crossings.specs.FallingLaws.{pass-more, pass-map, pass-done}
+use Rattle.crossings.specs.PassLaws.{table-pass-idle, kept-join}
+use Rattle.crossings.specs.ReductionLaws.{settled-listed}
+use Rattle.crossings.proofs.reduction.reduce_layer.Given as goal
+
+abbrev pub invariant-loop-i : goal.invariant-loop-i
+invariant-loop-i l = (l.i ≤ l.count) × Pass (TableKept plain l.d l.cells) (Each (λ j. Each (λ z u. ReductionSettled (tables_of l.cells) l.q l.a l.m (listed_in l.flags j) z (value_in plain l.values l.flags (listed_in l.flags j) z) (claim_in l.d u)) l.d.t) l.i) l.n l.initial.table l.table
+
+abbrev pub decreases-loop-i : goal.decreases-loop-i
+decreases-loop-i l = l.count - l.i

@@ -1,0 +1,19 @@
+use native.Mathlib.Omega.{arith}
+use Prim.Native.Nat.{◌-◌, ◌≤◌}
+use Rattle.book.specs.Tables.{tables_of}
+use Rattle.walk.specs.Scale.{plain}
+use Rattle.layers.specs.Layer.{value_in}
+use Rattle.layers.specs.LayerLaws.{value_read}
+use Rattle.layers.specs.Crossing.{claim_in}
+use Rattle.layers.specs.CrossingLaws.{terminals-are}
+use Rattle.crossings.specs.Falling.{Pass, Each}
+use Rattle.crossings.specs.Pass.{ReductionSettled, TableKept}
+use Rattle.crossings.specs.FallingLaws.{pass-more, pass-done}
+use Rattle.crossings.specs.PassLaws.{table-pass-idle, kept-join}
+use Rattle.crossings.proofs.reduction.reduce_state.Given as goal
+
+abbrev pub invariant-loop-z : goal.invariant-loop-z
+invariant-loop-z l = (l.z ≤ l.t) × Pass (TableKept plain l.d l.cells) (Each (λ j u. ReductionSettled (tables_of l.cells) l.q l.a l.m l.last j (value_in plain l.values l.flags l.last j) (claim_in l.d u)) l.z) l.n l.initial.table l.table
+
+abbrev pub decreases-loop-z : goal.decreases-loop-z
+decreases-loop-z l = l.t - l.z

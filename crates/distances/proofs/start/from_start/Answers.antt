@@ -1,0 +1,51 @@
+-- `distances::start::from_start` meets its contract. Assumes nothing.
+use native.Mathlib.Omega.{arith}
+use mathlib.Core.Path.{◌≡◌}
+use Prim.Native.Nat.{ℕ, ◌+◌, min}
+use lib.ListN.{length, length-replicate}
+use Rattle.book.specs.Tables.{tables_of}
+use Rattle.walk.specs.Scale.{plain, unreached}
+use Rattle.layers.specs.Crossing.{claim_in}
+use Rattle.layers.specs.Total.{total}
+use Rattle.distances.specs.Pass.{Arrived}
+use Rattle.distances.specs.TableLaws.{table-usable}
+use Rattle.distances.specs.StartLaws.{DistancesSettled, arrived-start, lengthened-whole, arrived-more, settled-more, start-table}
+use Rattle.distances.proofs.start.from_start.Goals as goal
+
+pub level-requires : goal.level-requires
+level-requires c =
+    (omega arith, c.requires.holds.small.terminals, length-replicate {A = ℕ} 4096 (unreached plain))
+
+pub loop-n-init : goal.loop-n-init
+loop-n-init c =
+    (length-replicate {A = ℕ} 4096 (unreached plain), arrived-start c.requires.holds c.level.ensures.values_len c.level.ensures.table_step, λ e. absurd (omega (arith, e)))
+
+pub lengthen-requires : goal.lengthen-requires
+lengthen-requires c =
+    let p = c.requires in
+    record {
+      usable = table-usable p.holds p.crossing_table p.open_rows;
+      listed = (c.all_on.ensures.listed, c.loop-n.invariant.0);
+    }
+
+pub merge-n-requires : goal.merge-n-requires
+merge-n-requires c =
+    record {
+      small = c.requires.holds.small;
+      dist_len = (c.loop-n.invariant.1.size, c.lengthen.ensures.sized.listed);
+    }
+
+pub loop-n-smaller : goal.loop-n-smaller
+loop-n-smaller c = omega (arith, c.merge-n.ensures.fallen.sum, c.loop-n-test.true)
+
+pub loop-n-preserved : goal.loop-n-preserved
+loop-n-preserved c =
+    let h = c.requires.holds in
+    let a = c.loop-n.invariant.1 in
+    let l = c.lengthen.ensures in
+    let whole = lengthened-whole h _ c.all_on.ensures l.lengthened in
+    (l.sized.size, arrived-more h _ a whole c.merge-n.ensures, settled-more h _ a whole c.merge-n.ensures)
+
+pub returns : goal.returns
+returns c =
+    start-table c.requires.holds c.requires.crossing_table c.loop-n.invariant.1 (c.loop-n.invariant.2 c.loop-n-test.false)

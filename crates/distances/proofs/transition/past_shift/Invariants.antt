@@ -1,0 +1,16 @@
+use native.Mathlib.Omega.{arith}
+use mathlib.Core.Path.{refl}
+use Prim.Native.Nat.{◌-◌, ◌≤◌}
+use Rattle.layers.specs.StepLaws.{step-zero, step-more, step-done}
+use Rattle.distances.specs.Distances.{distance_in}
+use Rattle.distances.specs.DistancesLaws.{distance_read}
+use Rattle.distances.specs.Pass.{LessenedUpto, PastShift}
+use Rattle.distances.specs.GoalLaws.{lessened, past-shift-off}
+use Rattle.walk.specs.Scale.{plain}
+use Rattle.distances.proofs.transition.past_shift.Given as goal
+
+abbrev pub invariant-loop-b : goal.invariant-loop-b
+invariant-loop-b l = (l.b ≤ l.t) × LessenedUpto plain (PastShift plain 1 (distance_in plain l.dist) l.g) l.b l.v l.r
+
+abbrev pub decreases-loop-b : goal.decreases-loop-b
+decreases-loop-b l = l.t - l.b

@@ -1,0 +1,32 @@
+-- `forms::converters::convert_to_2` meets its contract. Assumes nothing.
+use native.Mathlib.Omega.{arith}
+use Rattle.book.specs.BookLaws.{deliver-short, deliver-whole}
+use Rattle.book.specs.TablesLaws.{accepted-book}
+use Rattle.forms.specs.Forms.{in_form_2, to_form_2}
+use Rattle.forms.specs.WritingLaws.{bounds, form2-length}
+use Rattle.forms.proofs.converters.convert_to_2.Goals as goal
+
+pub overflow_sub-n : goal.overflow_sub-n
+overflow_sub-n c =
+    let b = bounds _ _ c.requires in omega (arith, b.start, c.rank_count.ensures)
+
+pub overflow_add-n : goal.overflow_add-n
+overflow_add-n c =
+    let b = bounds _ _ c.requires in omega (arith, b.most, b.ranks, b.terminals)
+
+pub returns-then-lent-n : goal.returns-then-lent-n
+unfolding to_form_2
+returns-then-lent-n c =
+    rw c.refused.ensures (deliver-short in_form_2 _ _ _ _ (accepted-book _ _ c.requires).book (omega (arith, form2-length _ _ c.requires, c.rank_count.ensures, c.if-lent-n.true)))
+
+pub write_ranked-requires : goal.write_ranked-requires
+write_ranked-requires c =
+    record {
+      accepted = c.requires;
+      cells_in_bounds = omega (arith, form2-length _ _ c.requires, c.rank_count.ensures, c.if-lent-n.false);
+    }
+
+pub returns : goal.returns
+unfolding to_form_2
+returns c =
+    deliver-whole in_form_2 _ _ _ _ _ _ (accepted-book _ _ c.requires).book (omega (arith, form2-length _ _ c.requires, c.rank_count.ensures)) c.if-lent-n.false c.write_ranked.ensures

@@ -1,0 +1,12 @@
+use native.Mathlib.Omega.{arith}
+use Prim.Native.Nat.{◌-◌, ◌≤◌}
+use Rattle.forms.specs.OrderLaws.{Filling, filling-none, filling-more, filling-done}
+use Rattle.forms.specs.RankLaws.{rank_below}
+use Rattle.forms.specs.WritingLaws.{bounds}
+use Rattle.forms.proofs.order.by_rank.Given as goal
+
+abbrev pub invariant-loop-a : goal.invariant-loop-a
+invariant-loop-a l = (1 ≤ l.a) × Filling l.cells l.d l.order l.a
+
+abbrev pub decreases-loop-a : goal.decreases-loop-a
+decreases-loop-a l = l.t - l.a

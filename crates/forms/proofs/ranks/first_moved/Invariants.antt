@@ -1,0 +1,17 @@
+use mathlib.Core.Bool.{not}
+use mathlib.Core.Path.{◌≡◌, ◌∙◌, sym}
+use native.Mathlib.Omega.{arith}
+use Prim.Native.Nat.{◌-◌, ◌≤◌}
+use borrow.Author.Tests.{eq-eqb, ne_eqb}
+use lib.Dec.{eqb}
+use Rattle.book.specs.Tables.{rank_of}
+use Rattle.forms.specs.Forms.{lowest}
+use Rattle.forms.specs.RankLaws.{rank_below, lowest-more, lowest-found, lowest-done}
+use Rattle.forms.specs.WritingLaws.{bounds}
+use Rattle.forms.proofs.ranks.first_moved.Given as goal
+
+abbrev pub invariant-loop-a : goal.invariant-loop-a
+invariant-loop-a l = (l.a ≤ l.t) × (lowest (λ b. not (eqb (rank_of l.cells b) b)) l.t 0 ≡ lowest (λ b. not (eqb (rank_of l.cells b) b)) (l.t - l.a) l.a)
+
+abbrev pub decreases-loop-a : goal.decreases-loop-a
+decreases-loop-a l = l.t - l.a

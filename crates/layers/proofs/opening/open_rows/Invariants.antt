@@ -1,0 +1,12 @@
+use native.Mathlib.Omega.{arith}
+use Prim.Native.Nat.{ℕ, ◌-◌, ◌≤◌}
+use lib.ListN.{length-replicate}
+use Rattle.book.specs.Tables.{tables_of}
+use Rattle.layers.specs.OpeningLaws.{FirstRows, first_more, all-rows}
+use Rattle.layers.proofs.opening.open_rows.Given as goal
+
+abbrev pub invariant-loop-k : goal.invariant-loop-k
+invariant-loop-k l = (l.k ≤ l.end) × FirstRows l.d (tables_of l.cells) l.k l.rows
+
+abbrev pub decreases-loop-k : goal.decreases-loop-k
+decreases-loop-k l = l.end - l.k

@@ -1,0 +1,15 @@
+use native.Mathlib.Omega.{arith}
+use mathlib.Core.Path.{◌≡◌, refl}
+use Prim.Native.Nat.{◌-◌, ◌≤◌}
+use lib.ListN.{length, length-set}
+use Rattle.layers.specs.Layer.{entry_in}
+use Rattle.layers.specs.Step.{TableStep, Upto, Level}
+use Rattle.layers.specs.StepLaws.{step-zero, step-more, step-least, step-done}
+use Rattle.walk.specs.Scale.{plain}
+use Rattle.layers.proofs.row.level.Given as goal
+
+abbrev pub invariant-loop-z : goal.invariant-loop-z
+invariant-loop-z l = (l.z ≤ l.t) × (length l.values ≡ 4096) × TableStep plain (Upto (Level l.g l.v) l.z) (entry_in l.initial.values) (entry_in l.values)
+
+abbrev pub decreases-loop-z : goal.decreases-loop-z
+decreases-loop-z l = l.t - l.z

@@ -1,0 +1,19 @@
+use native.Mathlib.Omega.{arith}
+use mathlib.Core.Path.{◌≡◌}
+use Prim.Native.Nat.{◌+◌, ◌*◌, ◌-◌, ◌≤◌, ◌<◌}
+use lib.ListN.{get_or, length}
+use Rattle.book.specs.IndexLaws.{mul_small}
+use Rattle.book.specs.Tables.{tables_of}
+use Rattle.walk.specs.Scale.{plain}
+use Rattle.layers.specs.CrossingLaws.{rows_fit}
+use Rattle.layers.specs.Layer.{Sized, value_in}
+use Rattle.layers.specs.StartsLaws.{cells-few, goto-read}
+use Rattle.layers.specs.Step.{TableStep, GotosBy}
+use Rattle.layers.specs.StepLaws.{step-zero, step-more, step-done}
+use Rattle.layers.proofs.transition.gotos_from.Given as goal
+
+abbrev pub invariant-loop-x : goal.invariant-loop-x
+invariant-loop-x l = (l.x ≤ l.m) × Sized l.d.s l.values l.flags × TableStep plain (GotosBy plain l.d l.wanted (tables_of l.cells) l.table l.q l.offsets l.costs l.n l.x) (value_in plain l.initial.values l.initial.flags) (value_in plain l.values l.flags)
+
+abbrev pub decreases-loop-x : goal.decreases-loop-x
+decreases-loop-x l = l.m - l.x

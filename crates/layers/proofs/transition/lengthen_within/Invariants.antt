@@ -1,0 +1,21 @@
+use native.Mathlib.Omega.{arith}
+use Prim.Native.Nat.{◌-◌, ◌≤◌, ◌<◌}
+use lib.ListN.{get_or, replicate}
+use Rattle.book.specs.Tables.{tables_of}
+use Rattle.walk.specs.Scale.{plain}
+use Rattle.walk.specs.Layers.{cut_at}
+use Rattle.layers.specs.Layer.{Sized, value_in}
+use Rattle.layers.specs.LayerLaws.{value_none}
+use Rattle.layers.specs.Crossing.{claim_in}
+use Rattle.layers.specs.States.{listed_in}
+use Rattle.layers.specs.StatesLaws.{listed-none}
+use Rattle.layers.specs.Step.{TableStep, Upto, LeavesState}
+use Rattle.layers.specs.StepLaws.{step-zero, step-more, step-done}
+use Rattle.layers.specs.LengthenLaws.{leaves-listed, lengthened}
+use Rattle.layers.proofs.transition.lengthen_within.Given as goal
+
+abbrev pub invariant-loop-i : goal.invariant-loop-i
+invariant-loop-i l = (l.i ≤ l.n) × Sized l.d.s l.values l.flags × TableStep plain (Upto (λ j. LeavesState plain l.d l.wanted (tables_of l.cells) (claim_in l.d l.table) (cut_at plain l.bound (value_in plain l.from l.on)) (listed_in l.on j)) l.i) (value_in plain l.initial.values (replicate 257 0)) (value_in plain l.values l.flags)
+
+abbrev pub decreases-loop-i : goal.decreases-loop-i
+decreases-loop-i l = l.n - l.i

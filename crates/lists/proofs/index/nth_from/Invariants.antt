@@ -1,0 +1,10 @@
+use mathlib.Core.Path.{sym, ◌∙◌}
+use Prim.Native.Nat.{◌-◌}
+use Rattle.lists.specs.NthLaws.{Skipped, skipped-none, skipped-more, skipped-stop, skipped-done}
+use Rattle.lists.proofs.index.nth_from.Given as goal
+
+abbrev pub invariant-loop-i : goal.invariant-loop-i
+invariant-loop-i l = Skipped l.list l.first l.count l.k l.i l.at l.left
+
+abbrev pub decreases-loop-i : goal.decreases-loop-i
+decreases-loop-i l = l.k - l.i

@@ -1,0 +1,16 @@
+use mathlib.Core.List.{[], ◌∷◌}
+use lib.ListN.{length-set, length}
+use Rattle.machine.specs.Run.{runs}
+use mathlib.Core.Path.{◌≡◌, ◌∙◌}
+use Prim.Native.Nat.{◌-◌}
+use native.Mathlib.Omega.{arith}
+use Rattle.book.specs.Tables.{tables_of}
+use Rattle.machine.specs.AdmissionLaws.{sound-at}
+use Rattle.machine.specs.DrivingLaws.{Driving, driving-none, driving-more, driving-ended, driving-done, ran-set, runs_by}
+use Rattle.machine.proofs.driver.drive.Given as goal
+
+abbrev pub invariant-loop-taken : goal.invariant-loop-taken
+invariant-loop-taken l = (length l.stack ≡ length l.initial.stack) × Driving (runs (tables_of l.cells) l.z) l.d.s l.sentence l.initial.stack l.stack l.depth l.taken
+
+abbrev pub decreases-loop-taken : goal.decreases-loop-taken
+decreases-loop-taken l = length l.sentence - l.taken

@@ -1,0 +1,15 @@
+use mathlib.Core.Path.{◌≡◌}
+use Prim.Native.Nat.{◌≤◌}
+use native.Mathlib.Omega.{arith}
+use lib.ListN.{length, length-set}
+use Rattle.book.specs.Tables.{tables_of}
+use Rattle.machine.specs.Run.{reducing}
+use Rattle.machine.specs.Stack.{stack_of}
+use Rattle.machine.specs.ReducingLaws.{Reducing, reducing-none, reducing-more, reducing-ended, reducing-shift}
+use Rattle.machine.proofs.reductions.reduce.Given as goal
+
+abbrev pub invariant-loop-e : goal.invariant-loop-e
+invariant-loop-e l = (l.left ≤ 4096) × (length l.stack ≡ length l.initial.stack) × Reducing (tables_of l.cells) l.d.s l.a l.taken l.initial.stack (reducing (tables_of l.cells) l.a l.taken 4096 (stack_of l.initial.stack l.depth)) l.stack l.n l.left
+
+abbrev pub decreases-loop-e : goal.decreases-loop-e
+decreases-loop-e l = l.left

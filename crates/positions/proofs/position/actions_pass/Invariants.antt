@@ -1,0 +1,14 @@
+use native.Mathlib.Omega.{arith}
+use mathlib.Core.Path.{sym}
+use Prim.Native.Nat.{ℕ, ◌-◌, ◌≤◌, ◌<◌}
+use mathlib.Core.Bool.{false≢true}
+use Rattle.book.specs.Tables.{tables_of}
+use Rattle.positions.specs.Position.{BarredAction}
+use Rattle.positions.specs.PositionLaws.{each_more}
+use Rattle.positions.proofs.position.actions_pass.Given as goal
+
+abbrev pub invariant-loop-z : goal.invariant-loop-z
+invariant-loop-z l = (l.z ≤ l.t) × ((j : ℕ) → j < l.z → BarredAction l.whole (tables_of l.cells) l.positions l.n l.q j)
+
+abbrev pub decreases-loop-z : goal.decreases-loop-z
+decreases-loop-z l = l.t - l.z

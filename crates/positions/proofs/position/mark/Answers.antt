@@ -1,0 +1,25 @@
+-- `positions::position::mark` meets its contract. Assumes nothing.
+use native.Mathlib.Omega.{arith}
+use Rattle.positions.specs.PositionLaws.{states-few, positions-kept, positions-set}
+use Rattle.layers.specs.CrossingLaws.{states-are}
+use borrow.Author.Tests.{not-true}
+use Rattle.positions.proofs.position.mark.Goals as goal
+
+pub returns-then-q-states : goal.returns-then-q-states
+returns-then-q-states c =
+    positions-kept c.args.k c.requires.positions (states-few c.requires.holds) (λ h. absurd (omega (arith, h, c.if-q-states.true, states-are c.requires.holds)))
+
+pub passes-requires : goal.passes-requires
+passes-requires c =
+    record {
+      holds = c.requires.holds;
+      n_bound = (omega (arith, c.requires.k_bound), c.if-q-states.false, c.requires.positions.size);
+    }
+
+pub returns-then-not-passes : goal.returns-then-not-passes
+returns-then-not-passes c =
+    positions-kept c.args.k c.requires.positions (states-few c.requires.holds) (λ h. c.passes.ensures c.if-not-passes.true)
+
+pub returns : goal.returns
+returns c =
+    positions-set c.args.k c.requires.positions (states-few c.requires.holds) c.requires.k_bound

@@ -1,0 +1,13 @@
+use native.Mathlib.Omega.{arith}
+use Prim.Native.Nat.{◌-◌, ◌≤◌}
+use lib.ListN.{length}
+use Rattle.book.specs.IndexLaws.{Digits, index-split}
+use Rattle.roads.specs.Pairs.{PairsIn}
+use Rattle.roads.specs.PairLaws.{pairs-more}
+use Rattle.roads.proofs.pair.as_layer.Given as goal
+
+abbrev pub invariant-loop-k : goal.invariant-loop-k
+invariant-loop-k l = (l.k ≤ length l.pairs) × PairsIn l.t l.pairs l.k l.values
+
+abbrev pub decreases-loop-k : goal.decreases-loop-k
+decreases-loop-k l = length l.pairs - l.k

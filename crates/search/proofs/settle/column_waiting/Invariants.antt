@@ -1,0 +1,18 @@
+use native.Mathlib.Nat.{le_refl}
+use native.Mathlib.Omega.{arith}
+use mathlib.Core.Logic.{inl, inr}
+use mathlib.Core.Path.{◌≡◌}
+use Prim.Native.Nat.{ℕ, ◌+◌, ◌-◌, ◌*◌, ◌≤◌, ◌<◌}
+use lib.ListN.{get_or}
+use Rattle.walk.specs.Scale.{plain}
+use Rattle.positions.specs.PositionLaws.{each_more}
+use Rattle.waiting.specs.Waiting.{event_in}
+use Rattle.waiting.specs.EventLaws.{row-dark, row_read}
+use Rattle.search.specs.SettleLaws.{column-none}
+use Rattle.search.proofs.settle.column_waiting.Given as goal
+
+abbrev pub invariant-loop-c : goal.invariant-loop-c
+invariant-loop-c l = (l.c ≤ l.t) × ((k : ℕ) → k < l.c → get_or l.done (l.x * 32 + k) 0 ≤ event_in plain l.events (l.at * 32 + l.x) k)
+
+abbrev pub decreases-loop-c : goal.decreases-loop-c
+decreases-loop-c l = l.t - l.c

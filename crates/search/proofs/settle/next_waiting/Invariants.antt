@@ -1,0 +1,13 @@
+use native.Mathlib.Omega.{arith}
+use Prim.Native.Nat.{◌-◌, ◌*◌, ◌≤◌}
+use Rattle.walk.specs.Scale.{plain}
+use Rattle.waiting.specs.Waiting.{event_in}
+use Rattle.search.specs.Settle.{NoneBelow}
+use Rattle.search.specs.SettleLaws.{done-most-less, none_row, next_here, next-none}
+use Rattle.search.proofs.settle.next_waiting.Given as goal
+
+abbrev pub invariant-loop-x : goal.invariant-loop-x
+invariant-loop-x l = (l.x ≤ l.n) × NoneBelow l.t l.at (event_in plain l.events) l.done (l.x * 32)
+
+abbrev pub decreases-loop-x : goal.decreases-loop-x
+decreases-loop-x l = l.n - l.x

@@ -1,0 +1,10 @@
+use Prim.Native.Nat.{◌≤◌}
+use native.Mathlib.Omega.{arith}
+use Rattle.text.specs.DecimalLaws.{Spelling, spelling-none, spelling-more, spelling-last, spelling-end}
+use Rattle.text.proofs.pieces.spell.Given as goal
+
+abbrev pub invariant-loop-i : goal.invariant-loop-i
+invariant-loop-i l = (l.i ≤ 20) × Spelling l.n l.text l.i l.rest
+
+abbrev pub decreases-loop-i : goal.decreases-loop-i
+decreases-loop-i l = l.i

@@ -1,0 +1,15 @@
+use mathlib.Core.List.{[], ◌∷◌}
+use mathlib.Core.Path.{◌≡◌}
+use Prim.Native.Nat.{ℕ}
+use lib.ListN.{length, length-set}
+use types.Run.{miss}
+use Rattle.book.specs.Tables.{tables_of}
+use Rattle.machine.specs.declared.Seen.TheVariants.{Reduce}
+use Rattle.within.specs.ReachingLaws.{Coming, coming-none, coming-now, coming-spent, coming-deep, coming-other, coming-more}
+use Rattle.within.proofs.reaching.comes.Given as goal
+
+abbrev pub invariant-loop-stack : goal.invariant-loop-stack
+invariant-loop-stack l = (length l.stack ≡ length l.initial.stack) × Coming (tables_of l.cells) l.d.s l.z l.s l.initial.stack l.stack l.depth l.n l.left
+
+abbrev pub decreases-loop-stack : goal.decreases-loop-stack
+decreases-loop-stack l = l.left

@@ -1,0 +1,17 @@
+use mathlib.Core.Path.{◌≡◌, ◌∙◌}
+use Prim.Native.Nat.{◌-◌}
+use native.Mathlib.Omega.{arith}
+use lib.ListN.{length, length-set}
+use Rattle.book.specs.Tables.{tables_of}
+use Rattle.machine.specs.AdmissionLaws.{sound-at}
+use Rattle.machine.specs.DrivingLaws.{Driving, driving-none, driving-more, driving-halt}
+use Rattle.within.specs.Within.{brings}
+use Rattle.within.specs.WithinLaws.{brings-by}
+use Rattle.within.specs.ReachingLaws.{bringing-done}
+use Rattle.within.proofs.reaching.reaches.Given as goal
+
+abbrev pub invariant-loop-taken : goal.invariant-loop-taken
+invariant-loop-taken l = (length l.stack ≡ length l.initial.stack) × Driving (brings (tables_of l.cells) l.z l.s) l.d.s l.sentence l.initial.stack l.stack l.depth l.taken
+
+abbrev pub decreases-loop-taken : goal.decreases-loop-taken
+decreases-loop-taken l = length l.sentence - l.taken
