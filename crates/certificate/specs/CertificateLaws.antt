@@ -72,7 +72,7 @@ right_is false b n = absurd (n refl)
 pair-here : {B : Tables} {P : ℕ → ℕ → Type 0} {s z : ℕ} → s < B.states → z < B.terminals → P s z → AtPair B P (crossing_count B + pair_at B s z)
 pair-here {s} {z} ls lz x = record { s = s; z = z; state = ls; terminal = lz; index = refl; fails = x }
 
-module _ {B : Tables} {c : Certificate} (i : InRange B) (ok : (k : Condition) (j : ℕ) → ¬ Fails B c k j) where
+module _ {B : Tables} (c : Certificate) (i : InRange B) (ok : (k : Condition) (j : ℕ) → ¬ Fails B c k j) where
   -- no claim of a crossing exceeds a road, and so the claims of gotos that are there are closed
   accepted-road : {q X a z v : ℕ} → q < B.states → Road B c.crossing q X a z v → c.crossing q X a z ≤ v
   accepted-road {q} {X} {a} {z} {v} lq r =

@@ -97,7 +97,7 @@ accepted-mapped {cells} {crossings} {pairs} {bytes} (judges ws end v e j) =
     record {
       d = a.d;
       book = a.book;
-      map = record { size = a.pair-cells ∙ pair-cells-of h; exact = map-exact crossings pairs ws h (sound (accepted-range a.d cells a.book) (accepted-none j)) };
+      map = record { size = a.pair-cells ∙ pair-cells-of h; exact = map-exact crossings pairs ws h (sound _ (accepted-range a.d cells a.book) (accepted-none j)) };
     }
 
 -- *complete*: a true certificate without long pairs, whose sentences reach within the limits, is accepted ..
@@ -122,7 +122,7 @@ accepted-certified {cells} {crossings} {pairs} {bytes} (judges ws end v e j) f =
       sentences = ws;
       end = end;
       written = a.written;
-      claims = accepted-true (accepted-range a.d cells a.book) (accepted-none j) f;
+      claims = accepted-true _ (accepted-range a.d cells a.book) (accepted-none j) f;
     }
 
 -- .. and nothing else is answered for it

@@ -94,7 +94,7 @@ module _ {σ : Scale} {d : Sizes} {cells : List ℕ} (h : Holds d cells) (dist :
         shift : {w : ℕ} → TowardShift σ d (tables_of cells) (distance_in σ dist) q a w → Sooner σ (tables_of cells) claim (distance_in σ dist) q a w
         shift (by-shift b e hb) = from-shift b e (rw (terminals-are h) hb)
 
-        goto : {w : ℕ} (X : ℕ) → TowardGoto σ d (tables_of cells) claim (distance_in σ dist) q a X w → Sooner σ (tables_of cells) claim (distance_in σ dist) q a w
+        goto : (X : ℕ) {w : ℕ} → TowardGoto σ d (tables_of cells) claim (distance_in σ dist) q a X w → Sooner σ (tables_of cells) claim (distance_in σ dist) q a w
         goto X (by-goto b e hb) = from-goto X b e (rw (terminals-are h) hb)
 
     pub sooner-least : Least σ (Sooner σ (tables_of cells) claim (distance_in σ dist) q a) r

@@ -27,7 +27,7 @@ pub merged-zero : {σ : Scale} {P : ℕ → ℕ → ℕ → ℕ → Type 0} {l :
 merged-zero h = record { size = h; step = step-zero; fallen = fallen-none }
 
 -- one store; a cell that is kept holds the least already
-pub merged-store : {σ : Scale} {old new : List ℕ} {r : ℕ} (g j v w : ℕ) → g < 128 → j < 32 → length old ≡ 4096 → v ≡ w → Stored (g * 32 + j) v old r new
+pub merged-store : {σ : Scale} {old : List ℕ} (g j v w : ℕ) {new : List ℕ} {r : ℕ} → g < 128 → j < 32 → length old ≡ 4096 → v ≡ w → Stored (g * 32 + j) v old r new
     → Merged σ (λ q z w'. (q ≡ g) × (z ≡ j) × (w' ≡ w)) r old new
 merged-store {σ} {old} g j v w hg hj h e (kept l) = record {
   size = h;
@@ -134,7 +134,7 @@ module _ {σ : Scale} {B : Tables} {claim : Claims} where
   pub distance-pass-idle : {D : List ℕ → Type 0} {l : List ℕ} → Bounded σ B.terminals l → D l → Pass (Drawn σ B claim) D 0 l l
   distance-pass-idle b x = pass-none (drawn-same b) x
 
-  pub pass-store : {D : List ℕ → Type 0} {old new : List ℕ} {r : ℕ} (q a v : ℕ) → B.terminals ≤ 32 → q < 128 → a < B.terminals
+  pub pass-store : {D : List ℕ → Type 0} {old : List ℕ} (q a v : ℕ) {new : List ℕ} {r : ℕ} → B.terminals ≤ 32 → q < 128 → a < B.terminals
       → (v ≡ unreached σ) ⊎ Sooner σ B claim (distance_in σ old) q a v → Bounded σ B.terminals old → (distance_in σ old q a ≤ v → D old)
       → Stored (q * 32 + a) v old r new → Pass (Drawn σ B claim) D r old new
   pass-store {old} q a v small hq ha x b f (kept l) = distance-pass-idle b (f (omega (arith, distance_read σ old q a hq)))

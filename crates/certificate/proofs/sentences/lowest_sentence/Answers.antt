@@ -10,6 +10,7 @@ use Rattle.book.specs.Tables.{tables_of}
 use Rattle.certificate.specs.WrongLaws.{Standing, standing-none, standing-done, standing-long, standing-refused, stood, standing-right, standing-wrong, symbols-sound}
 use borrow.Author.Rules.{rules}
 use Rattle.certificate.proofs.sentences.lowest_sentence.Goals as goal
+use Rattle.certificate.proofs.sentences.lowest_sentence.Goals.{then-claim-le-LIMIT+in-Value+else-not-is_right, else-claim-le-LIMIT}
 
 pub loop-k-init : goal.loop-k-init
 loop-k-init c = (search rules, omega arith, standing-none c.requires.admitted)
@@ -41,7 +42,10 @@ returns-then-not-is_right c =
 
 pub loop-k-preserved : goal.loop-k-preserved
 loop-k-preserved c =
-    ⊎_elim (λ (x, read, m, len, told, arg, lent, right, kept, y, es, ea). (rw es (right.ensures.1 ∙ c.loop-k.invariant.0), search rules, rw ea (standing-right c.loop-k.invariant.2 c.loop-k-test.true c.requires.holds.small.terminals x.taken (sym read.ensures ∙ len.given.1) (rw add-sub_cancel_left at (sym right.ensures.0 ∙ not-false _ y.left))))) (λ (x, es, ea). (rw es c.loop-k.invariant.0, search rules, rw ea (standing-long c.loop-k.invariant.2 c.loop-k-test.true x.left))) c.if-claim-le-LIMIT.branch
+    elim c.if-claim-le-LIMIT.branch [
+      then-claim-le-LIMIT+in-Value+else-not-is_right w ↦ (rw w.stack-is (w.is_right.ensures.stack_len_unchanged ∙ c.loop-k.invariant.0), search rules, rw w.at-is (standing-right c.loop-k.invariant.2 c.loop-k-test.true c.requires.holds.small.terminals w.if-claim-le-LIMIT.true (sym w.read.ensures ∙ w.in-Value.is) (rw add-sub_cancel_left at (sym w.is_right.ensures.value ∙ w.if-not-is_right.false))))
+    | else-claim-le-LIMIT w ↦ (rw w.stack-is c.loop-k.invariant.0, search rules, rw w.at-is (standing-long c.loop-k.invariant.2 c.loop-k-test.true w.if-claim-le-LIMIT.false))
+    ]
 
 pub returns : goal.returns
 returns c = standing-done c.loop-k.invariant.2 c.loop-k.invariant.1 c.loop-k-test.false

@@ -7,6 +7,7 @@ use lib.ListN.{length}
 use Rattle.certificate.specs.SentencesLaws.{SentencesPassed, passed_none, passed-some, passed-long, passed-stop, passed-done}
 use borrow.Author.Rules.{rules}
 use Rattle.certificate.proofs.sentences.sentence_row.Goals as goal
+use Rattle.certificate.proofs.sentences.sentence_row.Goals.{then-pairs-k-le-LIMIT+in-Value, else-pairs-k-le-LIMIT}
 
 pub loop-k-init : goal.loop-k-init
 loop-k-init c = (omega arith, passed_none)
@@ -17,7 +18,10 @@ returns-in_default c =
 
 pub loop-k-preserved : goal.loop-k-preserved
 loop-k-preserved c =
-    (search rules, ⊎_elim (λ (x, call, m, found, told, e). rw e (passed-some c.loop-k.invariant.1 c.loop-k-test.true x.taken (sym call.ensures ∙ found.given.1))) (λ (x, e). rw e (passed-long c.loop-k.invariant.1 c.loop-k-test.true x.left)) c.if-pairs-k-le-LIMIT.branch)
+    (search rules, elim c.if-pairs-k-le-LIMIT.branch [
+      then-pairs-k-le-LIMIT+in-Value w ↦ rw w.at-is (passed-some c.loop-k.invariant.1 c.loop-k-test.true w.if-pairs-k-le-LIMIT.true (sym w.sentence_at-found.ensures ∙ w.in-Value.is))
+    | else-pairs-k-le-LIMIT w ↦ rw w.at-is (passed-long c.loop-k.invariant.1 c.loop-k-test.true w.if-pairs-k-le-LIMIT.false)
+    ])
 
 pub returns : goal.returns
 returns c = passed-done c.loop-k.invariant.1 c.loop-k-test.false

@@ -11,7 +11,7 @@ use Rattle.distances.specs.PassLaws.{distance-pass-idle, drawn-join}
 use Rattle.distances.proofs.to_goals.approach_state.Given as goal
 
 abbrev pub invariant-loop-a : goal.invariant-loop-a
-invariant-loop-a l = (l.a ≤ l.t) × Pass (Drawn plain (tables_of l.cells) (claim_in l.d l.table)) (Each (λ j l. LeastApproach plain (tables_of l.cells) (claim_in l.d l.table) l.q j (distance_in plain l)) l.a) l.n l.initial.dist l.dist × Marked plain l.d.t l.flags l.dist
+invariant-loop-a live = (live.a ≤ live.t) × Pass (Drawn plain (tables_of live.cells) (claim_in live.d live.table)) (Each (λ j l. LeastApproach plain (tables_of live.cells) (claim_in live.d live.table) live.q j (distance_in plain l)) live.a) live.n live.initial.dist live.dist × Marked plain live.d.t live.flags live.dist
 
 abbrev pub decreases-loop-a : goal.decreases-loop-a
 decreases-loop-a l = l.t - l.a

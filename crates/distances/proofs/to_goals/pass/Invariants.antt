@@ -11,7 +11,7 @@ use Rattle.distances.specs.PassLaws.{distance-pass-idle, drawn-join}
 use Rattle.distances.proofs.to_goals.pass.Given as goal
 
 abbrev pub invariant-loop-i : goal.invariant-loop-i
-invariant-loop-i l = (l.i ≤ l.states) × Pass (Drawn plain (tables_of l.cells) (claim_in l.d l.table)) (Each (λ j. Each (λ a l. LeastApproach plain (tables_of l.cells) (claim_in l.d l.table) (l.d.s - 1 - j) a (distance_in plain l)) l.d.t) l.i) l.n l.initial.dist l.dist × Marked plain l.d.t l.flags l.dist
+invariant-loop-i live = (live.i ≤ live.states) × Pass (Drawn plain (tables_of live.cells) (claim_in live.d live.table)) (Each (λ j. Each (λ a l. LeastApproach plain (tables_of live.cells) (claim_in live.d live.table) (live.d.s - 1 - j) a (distance_in plain l)) live.d.t) live.i) live.n live.initial.dist live.dist × Marked plain live.d.t live.flags live.dist
 
 abbrev pub decreases-loop-i : goal.decreases-loop-i
 decreases-loop-i l = l.states - l.i

@@ -16,7 +16,7 @@ use Rattle.distances.specs.GoalLaws.{nearest-back, goal-table}
 use Rattle.distances.proofs.to_goals.to_goal.Given as goal
 
 abbrev pub invariant-loop-n : goal.invariant-loop-n
-invariant-loop-n l = Drawn plain (tables_of l.cells) (claim_in l.d l.table) l.initial.dist l.dist × Marked plain l.d.t l.flags l.dist × (l.n ≡ 0 → Each (λ q. Each (λ a l. LeastApproach plain (tables_of l.cells) (claim_in l.d l.table) q a (distance_in plain l)) l.d.t) l.d.s l.dist)
+invariant-loop-n live = Drawn plain (tables_of live.cells) (claim_in live.d live.table) live.initial.dist live.dist × Marked plain live.d.t live.flags live.dist × (live.n ≡ 0 → Each (λ q. Each (λ a l. LeastApproach plain (tables_of live.cells) (claim_in live.d live.table) q a (distance_in plain l)) live.d.t) live.d.s live.dist)
 
 abbrev pub decreases-loop-n : goal.decreases-loop-n
 decreases-loop-n l = total l.dist + min l.n 1

@@ -15,25 +15,25 @@ pub expand-requires : goal.expand-requires
 expand-requires c =
     let p = c.requires in
     let s = p.in_bounds in
-    let m = p.⟪5⟫ in
+    let m = p in
     record {
       usable = p.usable;
       g_lt_s = (rw s.1 (p.layered.1 _ (omega (arith, s.0))), p.a_lt_t.0, omega arith, p.a_lt_t.1);
-      pends = m.0;
-      scratch = (m.1.layers, rw c.fill.ensures (filled-size _ _ _ _ ∙ m.1.rows));
+      pends = m.pends;
+      scratch = (m.search_room.layers, rw c.fill.ensures (filled-size _ _ _ _ ∙ m.search_room.rows));
     }
 
 pub descend-requires : goal.descend-requires
 descend-requires c =
     let p = c.requires in
-    let m = p.⟪5⟫ in
+    let m = p in
     let e = c.expand.ensures.scratch_2 in
     record {
       usable = p.usable;
       in_bounds = (p.in_bounds.0, p.a_lt_t.1);
       layered = p.layered;
-      pends = m.0;
-      search_room = record { layers = e.0; rows = e.1; followed = m.1.followed };
+      pends = m.pends;
+      search_room = record { layers = e.0; rows = e.1; followed = m.search_room.followed };
     }
 
 pub returns : goal.returns

@@ -9,7 +9,7 @@ use Rattle.search.specs.EndsLaws.{bare-bottom, bare-state}
 use Rattle.search.proofs.ends.bare_at.Goals as goal
 
 pub returns-then-n-kept : goal.returns-then-n-kept
-returns-then-n-kept c = sym (bare-bottom _ _ _ _ _ c.if-n-kept.true)
+returns-then-n-kept c = sym (bare-bottom (tables_of c.args.cells.now) c.args.left c.args.stack.now c.args.kept c.args.n c.if-n-kept.true)
 
 pub goto_at-requires : goal.goto_at-requires
 goto_at-requires c =

@@ -18,11 +18,12 @@ judge_entries-requires c =
 
 pub put_list-requires : goal.put_list-requires
 put_list-requires c =
+    let bytes-here : Bytes c.args.list.now = λ i. omega (arith, c.shared_slice_known-2-1.given i) in
     let s = c in
     let p = c.requires in
     record {
       states_bound = omega (arith, p.holds.small.states);
-      states_value = accepted-whole p.holds (bytes s) p.list_accepted (rw c.in-None.is at c.judge_entries.ensures.entries_passed);
+      states_value = accepted-whole p.holds (bytes-here) p.list_accepted (rw c.in-None.is at c.judge_entries.ensures.entries_passed);
     }
 
 pub returns-in-First : goal.returns-in-First
@@ -32,6 +33,7 @@ returns-in-First c =
 
 pub returns-in-None : goal.returns-in-None
 returns-in-None c =
+    let bytes-here : Bytes c.args.list.now = λ i. omega (arith, c.shared_slice_known-2-1.given i) in
     let s = c in
     let p = c.requires in
-    accepted-sorted p.holds (bytes s) p.list_accepted (rw c.in-None.is at c.judge_entries.ensures.entries_passed) _ _ c.put_list.ensures
+    accepted-sorted p.holds (bytes-here) p.list_accepted (rw c.in-None.is at c.judge_entries.ensures.entries_passed) _ _ c.put_list.ensures
