@@ -29,7 +29,7 @@ module _ {σ : Scale} {B : Tables} {claim : Claims} where
     attained = ⊎_elim inl (λ o. up o) (l q a hq ha).attained;
   }
     where
-      low : {m v d z s q a : ℕ} → ((q b : ℕ) → q < B.states → b < B.terminals → (x : ℕ) → Claimed σ B claim q b x z m s → L q b ≤ x) → Start σ B claim q a v z (suc m) s
+      low : {m d z s q a v : ℕ} → ((q b : ℕ) → q < B.states → b < B.terminals → (x : ℕ) → Claimed σ B claim q b x z m s → L q b ≤ x) → Start σ B claim q a v z (suc m) s
           → ((y : ℕ) → Sooner σ B claim L q a y → d ≤ y) → d ≤ v
       low {q} {a} k (shift-first {q₁} {b} {v} e c) l =
           le_trans (l _ (from-shift b e (claimed-terminal c))) (plus-mono σ (le_refl _) (k q₁ b (i.shifts q a q₁ e).3 (claimed-terminal c) v c))

@@ -44,7 +44,7 @@ module _ {σ : Scale} {B : Tables} {claim : Claims} where
       low (shifting z c e h) m = rw (← plus_assoc) (le_trans (m _ (add-shift z (claimed-next c) e h)) (plus-mono σ (nearer c) (le_refl _)))
       low (crossing {b} X z c g h) m = rw (← plus_assoc) (le_trans (m _ (add-goto X b z (claimed-next c) g h)) (plus-mono σ (nearer c) (le_refl _)))
 
-      up : {v s z : ℕ} → Longer σ B claim L s z v → (v ≡ unreached σ) ⊎ Led σ B claim D (suc n) s z v
+      up : {s z v : ℕ} → Longer σ B claim L s z v → (v ≡ unreached σ) ⊎ Led σ B claim D (suc n) s z v
       up (add-shift {q₁} {t} z i e h) = ⊎_elim
           (λ x. inl (plus-far-left σ _ _ (omega arith)))
           (λ o. inr (record { state = o.state; first = o.first; after = plus σ o.after (shift_cost σ t); walk = shifting z o.walk e h; sum = rw (o.sum, plus_assoc) }))

@@ -1,0 +1,13 @@
+use native.Mathlib.Nat.{le_antisymm}
+use native.Mathlib.Omega.{arith}
+use mathlib.Core.Path.{◌≡◌, ◌∙◌}
+use Prim.Native.Nat.{◌-◌, ◌≤◌}
+use Rattle.approach.specs.Shortest.{least_over}
+use Rattle.approach.specs.ShortestLaws.{over_none, over-more}
+use Rattle.approach.proofs.shortest.over_start.Given as goal
+
+abbrev pub invariant-loop-m : goal.invariant-loop-m
+invariant-loop-m l = (l.r ≡ least_over l.togo l.due l.m l.a) × (l.m ≤ l.len)
+
+abbrev pub decreases-loop-m : goal.decreases-loop-m
+decreases-loop-m l = l.len - l.m

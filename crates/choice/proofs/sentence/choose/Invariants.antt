@@ -1,0 +1,25 @@
+use native.Mathlib.Omega.{arith}
+use mathlib.Core.List.{reverse}
+use mathlib.Core.Path.{◌≡◌, refl, sym, ◌∙◌, subst}
+use Prim.Native.Nat.{ℕ, ◌+◌, ◌-◌, ◌≤◌, ◌<◌}
+use lib.ListN.{length, take, length-set}
+use lib.Seq.{length-take-le}
+use Rattle.book.specs.Order.{place_in}
+use Rattle.book.specs.Tables.{tables_of}
+use Rattle.book.specs.TablesLaws.{in-range}
+use Rattle.layers.specs.CrossingLaws.{states-are, terminals-are}
+use Rattle.walk.specs.Choice.{Brings}
+use Rattle.walk.specs.Goal.{Aim}
+use Rattle.walk.specs.Scale.{plain}
+use Rattle.search.specs.Settle.{SearchRoom}
+use Rattle.choice.specs.Choosing.{Choosing}
+use Rattle.choice.specs.ChoosingLaws.{Picked, begun-length, choosing-begun, choosing-pick, choosing-more, choosing-done}
+use Rattle.choice.specs.Taking.{Stacked}
+use Rattle.choice.specs.TakingLaws.{part-states}
+use Rattle.choice.proofs.sentence.choose.Given as goal
+
+abbrev pub invariant-loop-i : goal.invariant-loop-i
+invariant-loop-i l = (l.i ≤ l.n) × (length l.buffer ≡ length l.initial.buffer) × (length l.stack ≡ length l.initial.stack) × Choosing plain (place_in l.order) (tables_of l.cells) (Brings (tables_of l.cells) l.z (Aim (tables_of l.cells) l.breaks l.s l.z) (reverse (take l.initial.depth l.initial.stack))) (reverse (take l.initial.depth l.initial.stack)) l.n l.initial.buffer l.buffer l.stack l.depth l.i (l.n - l.i) × ((length l.costs ≡ 4096) × SearchRoom l.values l.next l.events l.done)
+
+abbrev pub decreases-loop-i : goal.decreases-loop-i
+decreases-loop-i l = l.n - l.i

@@ -1,0 +1,19 @@
+use mathlib.Core.Path.{◌≡◌}
+use native.Mathlib.Omega.{arith}
+use Prim.Native.Nat.{◌-◌, ◌≤◌, ◌<◌}
+use lib.ListN.{length, get_or}
+use Rattle.book.specs.Tables.{tables_of}
+use Rattle.walk.specs.Scale.{plain}
+use Rattle.layers.specs.Layer.{entry_in, value_in}
+use Rattle.layers.specs.States.{listed_in}
+use Rattle.layers.specs.Step.{TableStep, Upto}
+use Rattle.layers.specs.StepLaws.{step-zero, step-more, step-done}
+use Rattle.lengths.specs.Lengths.{LayerEnding, Turn}
+use Rattle.lengths.specs.LengthsLaws.{ending-listed}
+use Rattle.lengths.proofs.layer.lower_layer.Given as goal
+
+abbrev pub invariant-loop-i : goal.invariant-loop-i
+invariant-loop-i l = (l.i ≤ l.count) × (length l.to ≡ 4096) × TableStep plain (Upto (λ j. Upto (Turn (LayerEnding plain l.missing (tables_of l.cells) l.m (value_in plain l.values l.flags)) (listed_in l.flags j)) l.d.t) l.i) (entry_in l.initial.to) (entry_in l.to)
+
+abbrev pub decreases-loop-i : goal.decreases-loop-i
+decreases-loop-i l = l.count - l.i

@@ -1,0 +1,17 @@
+-- `lengths::reduction::last_of_all` meets its contract. Assumes nothing.
+use native.Mathlib.Omega.{arith}
+use Prim.Native.Nat.{◌-◌, ◌≤◌}
+use native.Mathlib.Nat.{le_antisymm}
+use Rattle.book.specs.Tables.{tables_of}
+use Rattle.lengths.specs.Lengths.{LastFailing}
+use Rattle.lengths.specs.AheadLaws.{last_more}
+use Rattle.lengths.proofs.reduction.last_of_all.Goals as goal
+
+pub loop-p-init : goal.loop-p-init
+loop-p-init c = (omega arith, record { bound = λ p m h e. absurd (omega arith); most = omega arith })
+
+pub loop-p-preserved : goal.loop-p-preserved
+loop-p-preserved c = (omega arith, last_more c.loop-p.invariant.1 c.last.ensures c.most-r.ensures)
+
+pub returns : goal.returns
+returns c = rw (le_antisymm c.loop-p.invariant.0 c.loop-p-test.false) at c.loop-p.invariant.1

@@ -1,0 +1,7 @@
+-- `maps::admission::admit_sets` meets its contract: refusal by refusal. Assumes nothing.
+use Rattle.maps.specs.Maps.{sets_refusals}
+use Rattle.maps.proofs.admission.admit_sets.Goals as goal
+
+pub returns : goal.returns
+unfolding sets_refusals
+returns c = cc

@@ -1,0 +1,11 @@
+use Rattle.maps.specs.RowsLaws.{EntriesCopied, entries-copied-none, entries-copied-more}
+use native.Mathlib.Omega.{arith}
+use Prim.Native.Nat.{◌-◌, ◌≤◌}
+use native.Mathlib.Nat.{le_antisymm}
+use Rattle.maps.proofs.rows.copy_row.Given as goal
+
+abbrev pub invariant-loop-i : goal.invariant-loop-i
+invariant-loop-i l = (l.i ≤ l.n) × EntriesCopied l.from l.start l.initial.to l.at l.to l.i
+
+abbrev pub decreases-loop-i : goal.decreases-loop-i
+decreases-loop-i l = l.n - l.i

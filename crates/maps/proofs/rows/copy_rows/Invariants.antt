@@ -1,0 +1,14 @@
+use native.Mathlib.Omega.{arith}
+use mathlib.Core.Path.{◌≡◌, ◌∙◌}
+use Prim.Native.Nat.{◌-◌, ◌≤◌}
+use native.Mathlib.Nat.{le_antisymm}
+use lib.ListN.{length}
+use Rattle.book.specs.IndexLaws.{row_below}
+use Rattle.maps.specs.RowsLaws.{Rowed, rowed-none, rowed-more}
+use Rattle.maps.proofs.rows.copy_rows.Given as goal
+
+abbrev pub invariant-loop-q : goal.invariant-loop-q
+invariant-loop-q l = (l.q ≤ l.s) × (length l.to ≡ length l.initial.to) × Rowed l.from l.t l.initial.to l.to l.q l.at
+
+abbrev pub decreases-loop-q : goal.decreases-loop-q
+decreases-loop-q l = l.s - l.q

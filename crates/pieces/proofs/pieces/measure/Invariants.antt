@@ -1,0 +1,14 @@
+use mathlib.Core.Path.{◌≡◌, refl, sym}
+use native.Mathlib.Omega.{arith}
+use Prim.Native.Nat.{◌+◌, ◌-◌, ◌≤◌}
+use lib.ListN.{length, get_or}
+use Rattle.sorting.specs.UpToLaws.{up-to-none, up-to-length, up-to-part}
+use Rattle.pieces.specs.Pieces.{piece_of, pieces_to, count_to}
+use Rattle.pieces.specs.PiecesLaws.{count-zero, count-more, count-few}
+use Rattle.pieces.proofs.pieces.measure.Given as goal
+
+abbrev pub invariant-loop-s : goal.invariant-loop-s
+invariant-loop-s l = (l.s ≤ l.states) × (l.left + length (pieces_to l.first l.places l.second l.others l.s) ≡ l.room) × (l.count ≡ count_to l.places l.others l.s) × (l.count ≤ l.s)
+
+abbrev pub decreases-loop-s : goal.decreases-loop-s
+decreases-loop-s l = l.states - l.s
