@@ -1,0 +1,7 @@
+-- `finder::admission::admit_pair` meets its contract: refusal by refusal. Assumes nothing.
+use Rattle.finder.specs.Finder.{pair_refusals}
+use Rattle.finder.proofs.admission.admit_pair.Goals as goal
+
+pub returns : goal.returns
+unfolding pair_refusals
+returns c = cc

@@ -1,0 +1,32 @@
+-- `finder::telling::tell_least` meets its contract: the exact cost says which answer it is. Assumes nothing.
+use native.Mathlib.Omega.{arith}
+use Rattle.book.specs.Tables.{tables_of}
+use Rattle.book.specs.TablesLaws.{in-range}
+use Rattle.finder.specs.PairLaws.{brings-exact, answered-unreached, answered-long, answered-sentence}
+use Rattle.finder.proofs.telling.tell_least.Goals as goal
+
+pub returns-then-n-ge-UNREACHED : goal.returns-then-n-ge-UNREACHED
+returns-then-n-ge-UNREACHED c =
+    let a = c.args in answered-unreached a.breaks (tables_of a.cells.now) a.s a.z _ c.requires.layered.1 c.if-n-ge-UNREACHED.true
+
+pub returns-then-n-ge-LONG : goal.returns-then-n-ge-LONG
+returns-then-n-ge-LONG c =
+    let a = c.args in answered-long a.breaks (tables_of a.cells.now) a.s a.z _ c.requires.layered.1 c.if-n-ge-LONG.true c.if-n-ge-UNREACHED.false
+
+pub write_sentence-requires : goal.write_sentence-requires
+write_sentence-requires c =
+    let a = c.args in
+    let p = c.requires in
+    let short = c.if-n-ge-LONG.false in
+    record {
+      holds = p.holds;
+      crossing_table = p.crossing_table;
+      layered = (p.layered.0, p.guides);
+      exact = brings-exact a.breaks (tables_of a.cells.now) a.s a.z (in-range p.holds) p.layered.1;
+      arranged = p.arranged;
+      n_le_limit = (omega (arith, short), omega (arith, short, p.layered.3));
+    }
+
+pub returns : goal.returns
+returns c =
+    let a = c.args in answered-sentence a.breaks (tables_of a.cells.now) a.s a.z (in-range c.requires.holds) c.write_sentence.ensures

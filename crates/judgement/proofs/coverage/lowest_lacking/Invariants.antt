@@ -1,0 +1,14 @@
+use native.Mathlib.Nat.{sub-zero}
+use mathlib.Core.Path.{◌≡◌, sym, ◌∙◌}
+use native.Mathlib.Omega.{arith}
+use Prim.Native.Nat.{◌-◌, ◌≤◌}
+use Rattle.judgement.specs.Coverage.{state_fails, lacks_in}
+use Rattle.judgement.specs.CoverageLaws.{lowest-here, lowest-on, lowest-done}
+use Rattle.judgement.specs.Judgement.{lowest_state}
+use Rattle.judgement.proofs.coverage.lowest_lacking.Given as goal
+
+abbrev pub invariant-loop-q : goal.invariant-loop-q
+invariant-loop-q l = (l.q ≤ l.d.s) × (lowest_state (lacks_in (state_fails l.cells l.dist l.broken l.d.t) l.places) l.d.s 0 ≡ lowest_state (lacks_in (state_fails l.cells l.dist l.broken l.d.t) l.places) (l.d.s - l.q) l.q)
+
+abbrev pub decreases-loop-q : goal.decreases-loop-q
+decreases-loop-q l = l.d.s - l.q

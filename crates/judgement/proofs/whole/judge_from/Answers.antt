@@ -1,0 +1,24 @@
+-- `judgement::whole::judge_from` meets its contract: the plain cells have the book's tables. Assumes nothing.
+use mathlib.Core.Path.{sym}
+use native.Mathlib.Omega.{arith}
+use lib.Seq.{length-take-le}
+use Rattle.forms.specs.FormsLaws.{plain-holds, plain-tables}
+use Rattle.judgement.proofs.whole.judge_from.Goals as goal
+
+pub slice_bounds-judge_plain-end : goal.slice_bounds-judge_plain-end
+slice_bounds-judge_plain-end c =
+    sym (length-take-le _ _ (omega (arith, c.plain_cells-n.ensures.1, c.plain_cells-n.auto.to)))
+
+pub judge_plain-requires : goal.judge_plain-requires
+judge_plain-requires c =
+    record {
+      holds = rw (c.plain_cells-n.ensures.0, c.plain_sizes.ensures) (plain-holds _ _ c.requires.accepted);
+      entries_standing = rw c.plain_sizes.ensures c.requires.entries_standing;
+      d_in_bounds = rw c.plain_sizes.ensures c.requires.d_in_bounds;
+      in_bounds = rw c.plain_sizes.ensures c.requires.in_bounds;
+    }
+
+pub returns : goal.returns
+returns c =
+    let e = rw (c.plain_cells-n.ensures.0, c.plain_sizes.ensures) at c.judge_plain.ensures in
+    (rw (plain-tables _ _ c.requires.accepted) at e.judged, e.⟪1⟫)
