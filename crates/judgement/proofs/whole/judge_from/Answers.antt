@@ -15,10 +15,10 @@ judge_plain-requires c =
       holds = rw (c.plain_cells-n.ensures.0, c.plain_sizes.ensures) (plain-holds _ _ c.requires.accepted);
       entries_standing = rw c.plain_sizes.ensures c.requires.entries_standing;
       d_in_bounds = rw c.plain_sizes.ensures c.requires.d_in_bounds;
-      in_bounds = rw c.plain_sizes.ensures c.requires.in_bounds;
+      in_bounds = c.requires.in_bounds;
     }
 
 pub returns : goal.returns
 returns c =
     let e = rw (c.plain_cells-n.ensures.0, c.plain_sizes.ensures) at c.judge_plain.ensures in
-    (rw (plain-tables _ _ c.requires.accepted) at e.judged, e.⟪1⟫)
+    record { judged = rw (plain-tables _ _ c.requires.accepted) at e.judged; beyond = e.beyond; stack_unchanged = e.stack_unchanged }

@@ -40,5 +40,5 @@ returns-in-Valid c =
     let p = c.requires in
     let a = c.args in
     let j = c.judge_from-found in
-    judge-answered a.cells.now a.list.now a.work.now a.stack.now p.accepted j.new.1.1.1.1.1.1.0 (list-accepted _ _ p.list_value) (sym c.admit_room.ensures ∙ c.in-Valid.is)
-    j.ensures.0 j.ensures.1.0 c.work_cells-n.ensures c.clear.ensures j.ensures.1.1 c.clear-in-Valid.ensures
+    judge-answered a.cells.now a.list.now a.work.now a.stack.now p.accepted j.new.stack (list-accepted _ _ p.list_value) (sym c.admit_room.ensures ∙ c.in-Valid.is)
+    j.ensures.judged j.ensures.beyond c.work_cells-n.ensures c.clear.ensures j.ensures.stack_unchanged c.clear-in-Valid.ensures

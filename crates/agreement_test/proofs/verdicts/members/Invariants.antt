@@ -1,0 +1,8 @@
+use Rattle.std.proofs.Common.{◌-◌, ◌≤◌, ⊎_elim, arith, rules}
+use Rattle.agreement_test.proofs.verdicts.members.Given as goal
+
+abbrev pub invariant-loop-z : goal.invariant-loop-z
+invariant-loop-z l = (l.n ≤ l.z) × (l.z ≤ 8)
+
+abbrev pub decreases-loop-z : goal.decreases-loop-z
+decreases-loop-z l = 8 - l.z

@@ -1,0 +1,16 @@
+use mathlib.Core.Path.{◌≡◌, sym, ◌∙◌}
+use Prim.Native.Nat.{◌-◌, ◌≤◌}
+use native.Mathlib.Nat.{le_antisymm}
+use native.Mathlib.Omega.{arith}
+use lib.ListN.{length}
+use Rattle.book.specs.Order.{place_in}
+use Rattle.book.specs.Tables.{tables_of}
+use Rattle.layers.specs.CrossingLaws.{terminals-are}
+use Rattle.lines.specs.StateLaws.{Lines, lines_none, lines_more, lines-done}
+use Rattle.lines.proofs.state.put_state.Given as goal
+
+abbrev pub invariant-loop-z : goal.invariant-loop-z
+invariant-loop-z l = (l.z ≤ l.t) × (length l.sentence ≡ 1000) × Lines (place_in l.order) (tables_of l.cells) l.s l.initial.out l.at l.out l.next l.z
+
+abbrev pub decreases-loop-z : goal.decreases-loop-z
+decreases-loop-z l = l.t - l.z
