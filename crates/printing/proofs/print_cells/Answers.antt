@@ -23,4 +23,4 @@ slice_bounds-print_book-end c =
 pub print_book-requires : goal.print_book-requires
 print_book-requires c =
     let r = prepared-ready c.prepare.ensures c.in-Valid.is in
-    rw (c.plain_cells-n.ensures.0, c.plain_sizes.ensures) (r.holds, (r.crossings, c.by_rank.ensures.arranged))
+    rw (c.plain_cells-n.ensures.0, c.plain_sizes.ensures) record { holds = r.holds; crossing_table = r.crossings; arranged = c.by_rank.ensures.arranged }

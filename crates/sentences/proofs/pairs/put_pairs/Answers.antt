@@ -61,7 +61,7 @@ pub loop-i-preserved : goal.loop-i-preserved
 loop-i-preserved c =
     let call = c.put_pair-at in
     let inv = c.loop-i.invariant in
-    (omega arith, call.auto.1.1.1.1.1.1.1.1.0 ∙ inv.1, pairs-more inv.2 call.auto.1.1.1.1.1.1.1.1.1.0 call.ensures.0 call.ensures.1)
+    (omega arith, call.auto.sentence ∙ inv.1, pairs-more inv.2 call.auto.bytes call.ensures.pair_put call.ensures.upper_bound)
 
 pub returns : goal.returns
 returns c =

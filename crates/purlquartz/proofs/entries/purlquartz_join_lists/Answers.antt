@@ -1,0 +1,6 @@
+-- `purlquartz::entries::purlquartz_join_lists` meets its contract: what `join_lists` answers, as numbers. Assumes nothing.
+use mathlib.Core.Path.{refl}
+use Rattle.purlquartz.proofs.entries.purlquartz_join_lists.Goals as goal
+
+pub returns : goal.returns
+returns c = rw (← c.join_lists.ensures) (c.tell_joined.ensures, refl)
