@@ -5,7 +5,8 @@ use Rattle.std.proofs.Math.Decide.{ℕ_discrete, dec_lt}
 use Rattle.std.proofs.lemmas.List.{length-replicate, get_or-replicate}
 use Rattle.std.proofs.Math.ListN.{get_or-eq_default}
 use Rattle.book.specs.Tables.{Tables, tables_of}
-use Rattle.book.specs.TablesLaws.{InRange, Holds, in-range}
+use Rattle.book.specs.TablesLaws.{InRange, Holds}
+use Rattle.book.proofs.TablesLaws.{in-range}
 use Rattle.book.specs.declared.Sizes.{Sizes}
 use Rattle.walk.specs.Claims.{Claims}
 use Rattle.layers.specs.CrossingLaws.{states-are}

@@ -5,7 +5,8 @@ use Rattle.std.proofs.Math.Decide.{ℕ_discrete}
 use Rattle.std.proofs.Math.ListN.{length, get_or-append}
 use Rattle.std.proofs.Math.Seq.{paste, length-paste, length_paste_head}
 use Rattle.book.specs.Tables.{tables_of}
-use Rattle.book.specs.TablesLaws.{Holds, in-range}
+use Rattle.book.specs.TablesLaws.{Holds}
+use Rattle.book.proofs.TablesLaws.{in-range}
 use Rattle.book.specs.declared.Sizes.{Sizes}
 use Rattle.walk.specs.Scale.{Scale}
 use Rattle.walk.specs.Claims.{Claims}

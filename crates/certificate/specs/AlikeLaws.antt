@@ -4,7 +4,8 @@ use Rattle.std.proofs.Common.{ap}
 use Rattle.book.specs.CallLaws.{steps_alike}
 use Rattle.book.specs.Tables.{tables_of}
 use Rattle.book.specs.declared.Sizes.{Sizes}
-use Rattle.forms.specs.AlikeLaws.{Alike, alike-tables, alike-sizes}
+use Rattle.forms.specs.AlikeLaws.{Alike}
+use Rattle.forms.proofs.AlikeLaws.{alike-tables, alike-sizes}
 use Rattle.certificate.specs.Checks.{certificate_refusals, spelled_in, sentences_of}
 use Rattle.certificate.specs.Sentences.{sentences_in}
 use Rattle.certificate.specs.Verdict.{answer, checking}

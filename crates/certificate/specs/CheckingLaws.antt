@@ -7,11 +7,13 @@ use Rattle.book.specs.Book.{of_cells, checked}
 use Rattle.book.specs.Call.{steps}
 use Rattle.book.specs.CallLaws.{steps-none}
 use Rattle.book.specs.Tables.{tables_of}
-use Rattle.book.specs.TablesLaws.{Accepted, accepted-book}
+use Rattle.book.specs.TablesLaws.{Accepted}
+use Rattle.book.proofs.TablesLaws.{accepted-book}
 use Rattle.book.specs.declared.Checked.TheVariants.{Valid, Refused as CheckedRefused}
 use Rattle.book.specs.declared.Sizes.{Sizes}
 use Rattle.forms.specs.Forms.{in_form_1}
-use Rattle.forms.specs.FormsLaws.{with_form, plain-holds, plain-tables}
+use Rattle.forms.specs.FormsLaws.{with_form}
+use Rattle.forms.proofs.FormsLaws.{plain-holds, plain-tables}
 use Rattle.layers.specs.Crossing.{room}
 use Rattle.certificate.specs.Certificate.{crossing_count, pair_count, Fails, Judged}
 use Rattle.certificate.specs.Checks.{row_refusals, certificate_refusals, sentences_of, refuses, judges}

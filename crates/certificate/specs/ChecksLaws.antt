@@ -8,11 +8,12 @@ use Rattle.book.specs.Call.{admits}
 use Rattle.book.specs.CallLaws.{call-admitted}
 use Rattle.book.specs.IndexLaws.{index-split}
 use Rattle.book.specs.Tables.{tables_of}
-use Rattle.book.specs.TablesLaws.{Accepted, IsBook, InRange, accepted-book, in-range}
+use Rattle.book.specs.TablesLaws.{Accepted, IsBook, InRange}
+use Rattle.book.proofs.TablesLaws.{accepted-book, in-range}
 use Rattle.book.specs.declared.Checked.{Checked}
 use Rattle.book.specs.declared.Checked.TheVariants.{Valid, Refused as CheckedRefused}
 use Rattle.book.specs.declared.Sizes.{Sizes}
-use Rattle.forms.specs.FormsLaws.{plain-holds, plain-tables}
+use Rattle.forms.proofs.FormsLaws.{plain-holds, plain-tables}
 use Rattle.machine.specs.Machine.{Reaches}
 use Rattle.walk.specs.Scale.{plain}
 use Rattle.walk.specs.Cost.{Exact}

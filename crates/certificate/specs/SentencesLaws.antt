@@ -18,7 +18,8 @@ use Rattle.book.specs.Book.{Row, read, refused as unread, admitted}
 use Rattle.book.specs.BookLaws.{ends_read, ends-refused}
 use Rattle.book.specs.RowLaws.{ends, refused-not-read, row-length}
 use Rattle.lists.specs.Entry.{length_fault, symbol_fault, part}
-use Rattle.lists.specs.EntryLaws.{Symbols, symbols-spelled, inside, admitted-found, number-within}
+use Rattle.lists.specs.EntryLaws.{Symbols}
+use Rattle.lists.proofs.EntryLaws.{symbols-spelled, inside, admitted-found, number-within}
 use Rattle.walk.specs.Scale.{plain}
 use Rattle.certificate.specs.Sentences.{after_length, sentence_at, claimed_at, Spelled, spelled, refused, before, followed, sentences_at, closed, sentences_in}
 

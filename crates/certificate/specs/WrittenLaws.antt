@@ -11,7 +11,7 @@ use Rattle.book.specs.RoundTripLaws.{past, number-written}
 use Rattle.book.specs.Tables.{Tables}
 use Rattle.machine.specs.Machine.{Terminals, none, more}
 use Rattle.lists.specs.Entry.{length_fault}
-use Rattle.lists.specs.EntryLaws.{outside-none, symbols-read}
+use Rattle.lists.proofs.EntryLaws.{outside-none, symbols-read}
 use Rattle.walk.specs.Scale.{plain}
 use Rattle.certificate.specs.Sentences.{sentence_at, spelled, sentences_at, sentences_in}
 use Rattle.certificate.specs.Written.{written_sentences, Writable, none as no_pairs, some, skip}

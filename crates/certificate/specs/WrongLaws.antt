@@ -13,7 +13,8 @@ use Rattle.book.specs.Tables.{Tables}
 use Rattle.machine.specs.AdmissionLaws.{sound-all}
 use Rattle.machine.specs.Run.{sound_prefix}
 use Rattle.lists.specs.Entry.{part}
-use Rattle.lists.specs.EntryLaws.{Symbols, part_length}
+use Rattle.lists.specs.EntryLaws.{Symbols}
+use Rattle.lists.proofs.EntryLaws.{part_length}
 use Rattle.walk.specs.Scale.{plain}
 use Rattle.certificate.specs.Certificate.{is_right}
 use Rattle.roads.specs.Lowest.{Lowest}

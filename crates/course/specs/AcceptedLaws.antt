@@ -5,7 +5,7 @@ use Rattle.number.specs.Number.{number_at}
 use Rattle.number.specs.declared.Refusal.{Refusal}
 use Rattle.machine.specs.MachineLaws.{clash}
 use Rattle.lists.specs.List.{Listed, entries, refused, entries_at, list_of, listing, after}
-use Rattle.lists.specs.ReadingLaws.{list-ahead}
+use Rattle.lists.proofs.ReadingLaws.{list-ahead}
 use Rattle.lists.specs.declared.Entry.{Entry}
 use Rattle.lists.specs.declared.Listing.TheVariants.{Entries, Refused as ListingRefused}
 use Rattle.lists.specs.declared.Rest.{Rest}

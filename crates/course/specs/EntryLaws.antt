@@ -4,7 +4,8 @@ use Rattle.std.proofs.Common.{inl, inr, sym, ◌∙◌, ap₂, arith, length-app
 use Rattle.std.proofs.Math.Decide.{dec_le}
 use Rattle.std.proofs.lemmas.List.{length-replicate, length-reverse}
 use Rattle.book.specs.Tables.{Tables, tables_of}
-use Rattle.book.specs.TablesLaws.{Holds, InRange, in-range}
+use Rattle.book.specs.TablesLaws.{Holds, InRange}
+use Rattle.book.proofs.TablesLaws.{in-range}
 use Rattle.book.specs.declared.Sizes.{Sizes}
 use Rattle.machine.specs.AdmissionLaws.{sound-all}
 use Rattle.machine.specs.Machine.{Terminals, Reaches}
@@ -19,7 +20,8 @@ use Rattle.walk.specs.Walk.{Walk, here, shifted, crossed}
 use Rattle.walk.specs.WalkLaws.{reaches-walk}
 use Rattle.layers.specs.CrossingLaws.{terminals-are, states-are}
 use Rattle.lists.specs.Entry.{sentence}
-use Rattle.lists.specs.EntryLaws.{Spelled, part_length}
+use Rattle.lists.specs.EntryLaws.{Spelled}
+use Rattle.lists.proofs.EntryLaws.{part_length}
 use Rattle.lists.specs.declared.Entry.{Entry}
 use Rattle.items.specs.Items.{Item, item_of}
 use Rattle.course.specs.Course.{run_of, is_right, state_of, state_in}

@@ -13,10 +13,12 @@ use Rattle.book.specs.Tables.{Tables}
 use Rattle.machine.specs.MachineLaws.{clash}
 use Rattle.machine.specs.declared.Ending.{Ending}
 use Rattle.lists.specs.Entry.{sentence, entry_at}
-use Rattle.lists.specs.EntryLaws.{Spelled, entry-spelled, entry-wider}
+use Rattle.lists.specs.EntryLaws.{Spelled}
+use Rattle.lists.proofs.EntryLaws.{entry-spelled, entry-wider}
 use Rattle.lists.specs.List.{entries, entries_at, next_at}
-use Rattle.lists.specs.ListLaws.{EntryFront, entries-front, entries_none}
-use Rattle.lists.specs.ReadingLaws.{none_left}
+use Rattle.lists.specs.ListLaws.{EntryFront}
+use Rattle.lists.proofs.ListLaws.{entries-front, entries_none}
+use Rattle.lists.proofs.ReadingLaws.{none_left}
 use Rattle.lists.specs.declared.Entry.{Entry}
 use Rattle.lists.specs.declared.Next.TheVariants.{Found as Given, None as Nothing}
 use Rattle.lists.specs.declared.Rest.{Rest}

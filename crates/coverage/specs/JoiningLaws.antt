@@ -8,13 +8,15 @@ use Rattle.number.specs.Number.{number_at, first as first_number}
 use Rattle.number.specs.NumberLaws.{Bytes}
 use Rattle.book.specs.Range.{among}
 use Rattle.book.specs.Tables.{Tables, tables_of}
-use Rattle.book.specs.TablesLaws.{Accepted, accepted-book}
+use Rattle.book.specs.TablesLaws.{Accepted}
+use Rattle.book.proofs.TablesLaws.{accepted-book}
 use Rattle.book.specs.declared.Sizes.{Sizes}
-use Rattle.forms.specs.AlikeLaws.{Alike, alike-tables, alike-sizes}
+use Rattle.forms.specs.AlikeLaws.{Alike}
+use Rattle.forms.proofs.AlikeLaws.{alike-tables, alike-sizes}
 use Rattle.machine.specs.MachineLaws.{clash}
 use Rattle.lists.specs.Entry.{outside}
 use Rattle.lists.specs.List.{entries, entries_at, list_of, list_in}
-use Rattle.lists.specs.ListLaws.{against-on}
+use Rattle.lists.proofs.ListLaws.{against-on}
 use Rattle.lists.specs.declared.Entry.{Entry}
 use Rattle.items.specs.Items.{Item, items, list_bytes}
 use Rattle.items.specs.WrittenLaws.{items-few}

@@ -7,9 +7,11 @@ use Rattle.book.specs.CallLaws.{concludes-alike}
 use Rattle.book.specs.Tables.{tables_of, rank_of}
 use Rattle.book.specs.TablesLaws.{Accepted}
 use Rattle.book.specs.declared.Sizes.{Sizes}
-use Rattle.forms.specs.AlikeLaws.{Alike, alike-tables, alike-sizes, form2-alike, form2-ranks}
+use Rattle.forms.specs.AlikeLaws.{Alike}
+use Rattle.forms.proofs.AlikeLaws.{alike-tables, alike-sizes, form2-alike, form2-ranks}
 use Rattle.forms.specs.Forms.{in_form_2}
-use Rattle.forms.specs.FormsLaws.{with_form, plain-holds, plain-tables}
+use Rattle.forms.specs.FormsLaws.{with_form}
+use Rattle.forms.proofs.FormsLaws.{plain-holds, plain-tables}
 use Rattle.walk.specs.Answer.{Outcome, AnswerAs}
 use Rattle.walk.specs.AnswerLaws.{answer-rank}
 use Rattle.walk.specs.Scale.{plain}

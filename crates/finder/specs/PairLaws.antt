@@ -4,7 +4,8 @@ use Rattle.std.specs.Prelude.{Bool, true, false, List, [], ◌∷◌, ◌↔◌,
 use Rattle.std.proofs.Common.{inl, inr, ⊎_elim, ◌∙◌, sym, le_trans, arith}
 use Rattle.number.specs.Lent.{over}
 use Rattle.book.specs.Tables.{Tables, tables_of}
-use Rattle.book.specs.TablesLaws.{Holds, InRange, in-range}
+use Rattle.book.specs.TablesLaws.{Holds, InRange}
+use Rattle.book.proofs.TablesLaws.{in-range}
 use Rattle.book.specs.declared.Action.{Action}
 use Rattle.book.specs.declared.Action.TheVariants.{Error, Accept, Shift, Reduce}
 use Rattle.book.specs.declared.Sizes.{Sizes}

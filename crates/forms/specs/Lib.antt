@@ -3,4 +3,3 @@ pub mod Forms
 pub mod FormsLaws
 pub mod OrderLaws
 pub mod RankLaws
-pub mod WritingLaws

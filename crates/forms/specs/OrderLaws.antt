@@ -5,7 +5,8 @@ use Rattle.std.proofs.Math.Decide.{ℕ_discrete}
 use Rattle.book.specs.Order.{place_in, Arranged}
 use Rattle.book.specs.Tables.{rank_of}
 use Rattle.book.specs.RangeLaws.{Small}
-use Rattle.book.specs.TablesLaws.{Accepted, accepted-book}
+use Rattle.book.specs.TablesLaws.{Accepted}
+use Rattle.book.proofs.TablesLaws.{accepted-book}
 use Rattle.book.specs.declared.Sizes.{Sizes}
 use Rattle.forms.specs.RankLaws.{rank_below, rank-differs}
 

@@ -8,7 +8,8 @@ use native.Mathlib.Omega.{arith}
 use borrow.Author.Tests.{lt-ltb, le-ltb, eq-eqb, ne_eqb}
 use Rattle.book.specs.Range.{part_length, among, fits}
 use Rattle.book.specs.Tables.{rank_of}
-use Rattle.book.specs.TablesLaws.{Accepted, IsBook, accepted-book, body-fits}
+use Rattle.book.specs.TablesLaws.{Accepted, IsBook}
+use Rattle.book.proofs.TablesLaws.{accepted-book, body-fits}
 use Rattle.book.specs.declared.Part.TheVariants.{Ranks}
 use Rattle.book.specs.declared.Sizes.{Sizes}
 use Rattle.forms.specs.Forms.{lowest}

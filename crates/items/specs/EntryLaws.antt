@@ -10,7 +10,7 @@ use Rattle.book.specs.Book.{read, row, bytes_of}
 use Rattle.book.specs.BytesLaws.{bytes-append}
 use Rattle.book.specs.RoundTripLaws.{past, number-written}
 use Rattle.lists.specs.Entry.{length_fault, symbol_row, lookahead_fault, entry_at, part}
-use Rattle.lists.specs.EntryLaws.{part_length, outside-none, entry-parts, entry-spelled, one_byte, number_small, symbols-read}
+use Rattle.lists.proofs.EntryLaws.{part_length, outside-none, entry-parts, entry-spelled, one_byte, number_small, symbols-read}
 use Rattle.lists.specs.declared.Entry.{Entry}
 use Rattle.lists.specs.declared.Step.TheVariants.{Found}
 use Rattle.items.specs.Items.{Item, item_of, item_numbers}

@@ -5,7 +5,7 @@ use Rattle.number.specs.NumberLaws.{Bytes, number-onward}
 use Rattle.number.specs.declared.Cursor.{Cursor}
 use Rattle.book.specs.Book.{bytes_of}
 use Rattle.lists.specs.Entry.{entry_at}
-use Rattle.lists.specs.EntryLaws.{number-within, entry-wider}
+use Rattle.lists.proofs.EntryLaws.{number-within, entry-wider}
 use Rattle.lists.specs.declared.Entry.{Entry}
 use Rattle.lists.specs.declared.Step.{Step}
 use Rattle.lists.specs.declared.Step.TheVariants.{Found, Refused}

@@ -17,10 +17,11 @@ use Rattle.book.specs.Book.{admitted, bytes_of}
 use Rattle.book.specs.BytesLaws.{bytes-append}
 use Rattle.book.specs.RoundTripLaws.{past, number-written, numbers-bytes}
 use Rattle.lists.specs.Entry.{entry_at}
-use Rattle.lists.specs.EntryLaws.{inside, outside-none, admitted-found}
+use Rattle.lists.proofs.EntryLaws.{inside, outside-none, admitted-found}
 use Rattle.lists.specs.List.{entries, entries_at, count_fault, list_of, after, listing}
-use Rattle.lists.specs.ListLaws.{end_of, list_closing, entries-front, listing-on, refused-not-entries}
-use Rattle.lists.specs.ReadingLaws.{list-ahead}
+use Rattle.lists.specs.ListLaws.{end_of, list_closing}
+use Rattle.lists.proofs.ListLaws.{entries-front, listing-on, refused-not-entries}
+use Rattle.lists.proofs.ReadingLaws.{list-ahead}
 use Rattle.lists.specs.declared.Entry.{Entry}
 use Rattle.lists.specs.declared.Listing.TheVariants.{Entries, Refused as ListingRefused}
 use Rattle.lists.specs.declared.Rest.{Rest}

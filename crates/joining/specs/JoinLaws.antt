@@ -18,7 +18,7 @@ use Rattle.book.specs.declared.Checked.TheVariants.{Valid, Refused as CheckedRef
 use Rattle.book.specs.declared.Sizes.{Sizes}
 use Rattle.layers.specs.CrossingLaws.{states-are}
 use Rattle.lists.specs.Entry.{sentence, entry_at}
-use Rattle.lists.specs.EntryLaws.{part_length, entry-parts, entry-spelled}
+use Rattle.lists.proofs.EntryLaws.{part_length, entry-parts, entry-spelled}
 use Rattle.lists.specs.List.{list_of, listing}
 use Rattle.lists.specs.declared.Entry.{Entry}
 use Rattle.lists.specs.declared.Listing.TheVariants.{Refused as ListingRefused}

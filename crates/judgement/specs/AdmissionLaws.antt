@@ -13,7 +13,7 @@ use Rattle.book.specs.declared.Sizes.{Sizes}
 use Rattle.layers.specs.Crossing.{room}
 use Rattle.crossings.specs.Crossings.{Beyond}
 use Rattle.lists.specs.List.{entries, refused, list_of, list_in, listing}
-use Rattle.lists.specs.ListLaws.{against-on}
+use Rattle.lists.proofs.ListLaws.{against-on}
 use Rattle.lists.specs.declared.Listing.TheVariants.{Refused as ListingRefused}
 use Rattle.lists.specs.declared.Rest.{Rest}
 use Rattle.work.specs.Work.{work_cells}

@@ -5,10 +5,11 @@ use Rattle.std.proofs.Common.{sym, ◌∙◌}
 use Rattle.number.specs.Lent.{over}
 use Rattle.book.specs.CallLaws.{concludes-alike}
 use Rattle.book.specs.declared.Sizes.{Sizes}
-use Rattle.forms.specs.AlikeLaws.{Alike, alike-tables, alike-sizes}
+use Rattle.forms.specs.AlikeLaws.{Alike}
+use Rattle.forms.proofs.AlikeLaws.{alike-tables, alike-sizes}
 use Rattle.work.specs.Work.{cleared}
 use Rattle.lists.specs.List.{Listed, refused, entries, list_in}
-use Rattle.lists.specs.ListLaws.{list-alike}
+use Rattle.lists.proofs.ListLaws.{list-alike}
 use Rattle.course.specs.declared.Judgement.{Judgement}
 use Rattle.course.specs.declared.Judgement.TheVariants.{Refused}
 use Rattle.judgement.specs.Judgement.{judge_refusals, JudgedIn, Judges}

@@ -3,7 +3,8 @@ use Rattle.std.specs.Prelude.{true, List, ◌≡◌, ℕ, ◌<◌}
 use Rattle.std.proofs.Common.{sym, ◌∙◌, arith, ltb-true}
 use Rattle.book.specs.Range.{allowed}
 use Rattle.book.specs.Tables.{Tables, tables_of}
-use Rattle.book.specs.TablesLaws.{Holds, act-some, in-range}
+use Rattle.book.specs.TablesLaws.{Holds}
+use Rattle.book.proofs.TablesLaws.{act-some, in-range}
 use Rattle.book.specs.declared.Action.{Action}
 use Rattle.book.specs.declared.Action.TheVariants.{Error, Accept, Shift, Reduce}
 use Rattle.book.specs.declared.Sizes.{Sizes}

@@ -4,7 +4,8 @@ use Rattle.std.proofs.Common.{sym, add-mul, mul_assoc, arith}
 use Rattle.book.specs.IndexLaws.{index_below, row_below, index-first, index-second, mul_small}
 use Rattle.book.specs.RangeLaws.{Small}
 use Rattle.book.specs.Tables.{tables_of}
-use Rattle.book.specs.TablesLaws.{Holds, goto-some, left-side-below, length_most, lhs-inside, len-inside}
+use Rattle.book.specs.TablesLaws.{Holds}
+use Rattle.book.proofs.TablesLaws.{goto-some, left-side-below, length_most, lhs-inside, len-inside}
 use Rattle.book.specs.declared.Sizes.{Sizes}
 use Rattle.layers.specs.Crossing.{room, crossing_row, Fitted}
 use Rattle.layers.specs.Starts.{crossing_block}

@@ -3,7 +3,8 @@ use Rattle.std.specs.Prelude.{List, ◌≡◌, ℕ, ◌+◌, ◌*◌, ◌/◌, �
 use Rattle.std.proofs.Common.{sym, ◌∙◌, arith, length-set, get_or-set_same, get_or-set_other}
 use Rattle.std.proofs.Math.Decide.{ℕ_discrete}
 use Rattle.book.specs.Tables.{Tables, tables_of}
-use Rattle.book.specs.TablesLaws.{Holds, act-some, goto-some}
+use Rattle.book.specs.TablesLaws.{Holds}
+use Rattle.book.proofs.TablesLaws.{act-some, goto-some}
 use Rattle.book.specs.declared.Action.TheVariants.{Shift}
 use Rattle.book.specs.declared.Sizes.{Sizes}
 use Rattle.book.specs.RangeLaws.{Small}

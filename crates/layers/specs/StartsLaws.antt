@@ -5,7 +5,8 @@ use Rattle.book.specs.Action.{action_of}
 use Rattle.book.specs.IndexLaws.{index_below}
 use Rattle.book.specs.RangeLaws.{actions-few, gotos-few}
 use Rattle.book.specs.Tables.{tables_of}
-use Rattle.book.specs.TablesLaws.{Holds, no-ranks, action_at, goto_at, act-inside, goto-inside, goto-most}
+use Rattle.book.specs.TablesLaws.{Holds, action_at, goto_at}
+use Rattle.book.proofs.TablesLaws.{no-ranks, act-inside, goto-inside, goto-most}
 use Rattle.book.specs.declared.Sizes.{Sizes}
 use Rattle.layers.specs.Starts.{action_row, goto_row}
 

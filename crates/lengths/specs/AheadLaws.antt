@@ -9,7 +9,8 @@ use Rattle.std.proofs.lemmas.List.{length-replicate}
 use Rattle.sets.specs.Bits.{member}
 use Rattle.sets.specs.SetLaws.{member-put}
 use Rattle.book.specs.Tables.{Tables, tables_of}
-use Rattle.book.specs.TablesLaws.{Holds, in-range, goto-some}
+use Rattle.book.specs.TablesLaws.{Holds}
+use Rattle.book.proofs.TablesLaws.{in-range, goto-some}
 use Rattle.book.specs.declared.Action.{Action}
 use Rattle.book.specs.declared.Action.TheVariants.{Error, Accept, Shift, Reduce}
 use Rattle.book.specs.declared.Sizes.{Sizes}

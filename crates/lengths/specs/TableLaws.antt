@@ -5,7 +5,8 @@ use Rattle.std.proofs.Math.Decide.{ℕ_discrete, dec_lt}
 use Rattle.std.proofs.lemmas.List.{get_or-replicate}
 use Rattle.sets.specs.Bits.{member}
 use Rattle.book.specs.Tables.{Tables, tables_of}
-use Rattle.book.specs.TablesLaws.{Holds, in-range, left-side-below, lhs-inside}
+use Rattle.book.specs.TablesLaws.{Holds}
+use Rattle.book.proofs.TablesLaws.{in-range, left-side-below, lhs-inside}
 use Rattle.book.specs.declared.Action.{Action}
 use Rattle.book.specs.declared.Action.TheVariants.{Error, Accept, Shift, Reduce}
 use Rattle.book.specs.declared.Sizes.{Sizes}

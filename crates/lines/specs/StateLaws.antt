@@ -11,9 +11,10 @@ use Rattle.book.specs.Order.{place_in}
 use Rattle.book.specs.Tables.{Tables, tables_of, rank_of}
 use Rattle.book.specs.TablesLaws.{Accepted}
 use Rattle.book.specs.declared.Sizes.{Sizes}
-use Rattle.forms.specs.AlikeLaws.{alike-tables, form2-alike, form2-ranks}
+use Rattle.forms.proofs.AlikeLaws.{alike-tables, form2-alike, form2-ranks}
 use Rattle.forms.specs.Forms.{in_form_1, in_form_2}
-use Rattle.forms.specs.FormsLaws.{with_form, plain-holds, plain-tables}
+use Rattle.forms.specs.FormsLaws.{with_form}
+use Rattle.forms.proofs.FormsLaws.{plain-holds, plain-tables}
 use Rattle.forms.specs.OrderLaws.{ByRank}
 use Rattle.layers.specs.CrossingLaws.{terminals-are}
 use Rattle.walk.specs.Answer.{Outcome, Unreached, WordsOf}

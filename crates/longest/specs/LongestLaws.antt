@@ -18,10 +18,11 @@ use Rattle.book.specs.BytesLaws.{bytes-append}
 use Rattle.book.specs.CellsLaws.{Suits, Composed}
 use Rattle.book.specs.Range.{head_highest, part_length, allowed, among, fits}
 use Rattle.book.specs.RangeLaws.{actions-few, gotos-few, ranks-few, Small, Few, few, head-range}
-use Rattle.book.specs.SeenLaws.{by-number-suit}
+use Rattle.book.proofs.SeenLaws.{by-number-suit}
 use Rattle.book.specs.RoundTripLaws.{below-append, read-written, written_read, numbers-bytes}
 use Rattle.book.specs.Tables.{sizes_of}
-use Rattle.book.specs.TablesLaws.{IsBook, accepted-book, book-composed, composed-accepted}
+use Rattle.book.specs.TablesLaws.{IsBook}
+use Rattle.book.proofs.TablesLaws.{accepted-book, book-composed, composed-accepted}
 use Rattle.book.specs.WidthLaws.{production-narrow, rank-narrow, highest-wide, fits-wide, suits-wide, composed-wide}
 use Rattle.book.specs.declared.Action.TheVariants.{Reduce}
 use Rattle.book.specs.declared.Checked.TheVariants.{Valid}

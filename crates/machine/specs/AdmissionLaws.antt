@@ -13,7 +13,8 @@ use Rattle.book.specs.TablesLaws.{Accepted}
 use Rattle.book.specs.declared.Checked.{Checked}
 use Rattle.book.specs.declared.Checked.TheVariants.{Valid, Refused as CheckedRefused}
 use Rattle.book.specs.declared.Sizes.{Sizes}
-use Rattle.forms.specs.AlikeLaws.{Alike, alike-tables, alike-sizes}
+use Rattle.forms.specs.AlikeLaws.{Alike}
+use Rattle.forms.proofs.AlikeLaws.{alike-tables, alike-sizes}
 use Rattle.machine.specs.Run.{runs, sound_prefix, run_refusals, stack_left, running}
 use Rattle.machine.specs.Stack.{RanTo}
 use Rattle.machine.specs.declared.Ending.{Ending}

@@ -8,7 +8,8 @@ use Rattle.number.specs.Lent.{over}
 use Rattle.number.specs.LentLaws.{over-more}
 use Rattle.book.specs.Range.{allowed}
 use Rattle.book.specs.Tables.{Tables, tables_of}
-use Rattle.book.specs.TablesLaws.{Holds, act-some, goto-some, left-side-below, lhs-inside, in-range}
+use Rattle.book.specs.TablesLaws.{Holds}
+use Rattle.book.proofs.TablesLaws.{act-some, goto-some, left-side-below, lhs-inside, in-range}
 use Rattle.book.specs.declared.Action.{Action}
 use Rattle.book.specs.declared.Action.TheVariants.{Shift, Reduce}
 use Rattle.book.specs.declared.Sizes.{Sizes}

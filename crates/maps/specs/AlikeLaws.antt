@@ -9,9 +9,11 @@ use Rattle.book.specs.TablesLaws.{Accepted}
 use Rattle.book.specs.declared.Sizes.{Sizes}
 use Rattle.book.specs.declared.Written.{Written}
 use Rattle.book.specs.declared.Written.TheVariants.{Count, Refused as WrittenRefused}
-use Rattle.forms.specs.AlikeLaws.{Alike, alike-tables, alike-sizes}
+use Rattle.forms.specs.AlikeLaws.{Alike}
+use Rattle.forms.proofs.AlikeLaws.{alike-tables, alike-sizes}
 use Rattle.forms.specs.Forms.{in_form_1}
-use Rattle.forms.specs.FormsLaws.{with_form, plain-tables}
+use Rattle.forms.specs.FormsLaws.{with_form}
+use Rattle.forms.proofs.FormsLaws.{plain-tables}
 use Rattle.walk.specs.Map.{IsMap}
 use Rattle.walk.specs.Scale.{plain}
 use Rattle.distances.specs.Distances.{StartTable}

@@ -14,7 +14,8 @@ use Rattle.book.specs.declared.Written.TheVariants.{Count}
 use Rattle.book.specs.declared.Sizes.{Sizes}
 use Rattle.machine.specs.MachineLaws.{clash}
 use Rattle.forms.specs.Forms.{in_form_1}
-use Rattle.forms.specs.FormsLaws.{with_form, plain-holds}
+use Rattle.forms.specs.FormsLaws.{with_form}
+use Rattle.forms.proofs.FormsLaws.{plain-holds}
 use Rattle.walk.specs.Scale.{plain}
 use Rattle.crossings.specs.Crossings.{CrossingTable, Beyond}
 use Rattle.work.specs.Work.{work_cells}

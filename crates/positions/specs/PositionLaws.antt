@@ -5,7 +5,8 @@ use Rattle.std.proofs.Math.Decide.{ℕ_discrete, dec_lt}
 use Rattle.std.proofs.lemmas.List.{length-replicate}
 use Rattle.std.proofs.Math.ListN.{get_or-eq_default}
 use Rattle.book.specs.Tables.{Tables, tables_of}
-use Rattle.book.specs.TablesLaws.{Holds, InRange, in-range, goto-some}
+use Rattle.book.specs.TablesLaws.{Holds, InRange}
+use Rattle.book.proofs.TablesLaws.{in-range, goto-some}
 use Rattle.book.specs.declared.Action.{Action}
 use Rattle.book.specs.declared.Action.TheVariants.{Error, Accept, Shift, Reduce}
 use Rattle.book.specs.declared.Sizes.{Sizes}

@@ -7,7 +7,8 @@ use Rattle.std.proofs.Math.ListN.{get_or}
 use Rattle.book.specs.IndexLaws.{index_below, index-first, index-second, Digits, index-split, index-digits}
 use Rattle.book.specs.RangeLaws.{Small}
 use Rattle.book.specs.Tables.{tables_of}
-use Rattle.book.specs.TablesLaws.{Holds, in-range}
+use Rattle.book.specs.TablesLaws.{Holds}
+use Rattle.book.proofs.TablesLaws.{in-range}
 use Rattle.book.specs.declared.Sizes.{Sizes}
 use Rattle.walk.specs.Scale.{plain, unreached}
 use Rattle.walk.specs.Claims.{Claims}

@@ -3,7 +3,8 @@ use Rattle.std.specs.Prelude.{true, List, ◌⊎◌, ◌≡◌, refl, ℕ, suc, 
 use Rattle.std.proofs.Common.{inl, inr, sym, ◌∙◌, add-one, arith}
 use Rattle.std.proofs.Math.Decide.{ℕ_discrete}
 use Rattle.book.specs.Tables.{Tables, tables_of}
-use Rattle.book.specs.TablesLaws.{Holds, in-range}
+use Rattle.book.specs.TablesLaws.{Holds}
+use Rattle.book.proofs.TablesLaws.{in-range}
 use Rattle.book.specs.declared.Action.{Action}
 use Rattle.book.specs.declared.Action.TheVariants.{Error, Accept, Shift, Reduce}
 use Rattle.book.specs.declared.Sizes.{Sizes}

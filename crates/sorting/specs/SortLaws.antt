@@ -8,13 +8,14 @@ use Rattle.number.specs.NumberLaws.{Bytes}
 use Rattle.number.specs.declared.Refusal.{Refusal}
 use Rattle.book.specs.Book.{bytes_of, of_cells, checked}
 use Rattle.book.specs.Tables.{Tables, tables_of}
-use Rattle.book.specs.TablesLaws.{Holds, in-range}
+use Rattle.book.specs.TablesLaws.{Holds}
+use Rattle.book.proofs.TablesLaws.{in-range}
 use Rattle.book.specs.declared.Checked.TheVariants.{Valid, Refused as CheckedRefused}
 use Rattle.book.specs.declared.Sizes.{Sizes}
 use Rattle.layers.specs.CrossingLaws.{terminals-are, states-are}
-use Rattle.lists.specs.EntryLaws.{number-within}
+use Rattle.lists.proofs.EntryLaws.{number-within}
 use Rattle.lists.specs.List.{list_of, list_in, listing, after}
-use Rattle.lists.specs.ListLaws.{against-stop, against-on}
+use Rattle.lists.proofs.ListLaws.{against-stop, against-on}
 use Rattle.lists.specs.declared.Listing.TheVariants.{Refused as ListingRefused}
 use Rattle.lists.specs.declared.Rest.{Rest}
 use Rattle.items.specs.Items.{Item, items, numbers_of}

@@ -5,13 +5,15 @@ use Rattle.std.proofs.lemmas.List.{length-map}
 use Rattle.number.specs.Lent.{over}
 use Rattle.number.specs.NumberLaws.{Bytes}
 use Rattle.book.specs.Tables.{Tables, tables_of}
-use Rattle.book.specs.TablesLaws.{Accepted, InRange, accepted-book, in-range}
+use Rattle.book.specs.TablesLaws.{Accepted, InRange}
+use Rattle.book.proofs.TablesLaws.{accepted-book, in-range}
 use Rattle.book.specs.declared.Sizes.{Sizes}
-use Rattle.forms.specs.AlikeLaws.{Alike, alike-tables, alike-sizes}
-use Rattle.forms.specs.FormsLaws.{plain-holds, plain-tables}
+use Rattle.forms.specs.AlikeLaws.{Alike}
+use Rattle.forms.proofs.AlikeLaws.{alike-tables, alike-sizes}
+use Rattle.forms.proofs.FormsLaws.{plain-holds, plain-tables}
 use Rattle.machine.specs.MachineLaws.{clash}
 use Rattle.lists.specs.List.{entries, list_of, list_in}
-use Rattle.lists.specs.ListLaws.{against-on, list-alike}
+use Rattle.lists.proofs.ListLaws.{against-on, list-alike}
 use Rattle.lists.specs.declared.Entry.{Entry}
 use Rattle.items.specs.Items.{Item, item_of, items, list_bytes}
 use Rattle.items.specs.Rearranged.{Rearranged}

@@ -17,7 +17,7 @@ use Rattle.book.specs.Action.{action_of}
 use Rattle.book.specs.Book.{book_in, row, parts_in, cell_at, of_bytes, of_cells, checked}
 use Rattle.book.specs.Range.{fault, fault_number, fits, allowed}
 use Rattle.book.specs.Tables.{Tables, sizes_of, tables_of, rank_of}
-use Rattle.book.specs.TablesLaws.{act-range}
+use Rattle.book.proofs.TablesLaws.{act-range}
 use Rattle.book.specs.declared.Action.{Action}
 use Rattle.book.specs.declared.Action.TheVariants.{Error, Accept, Shift, Reduce}
 use Rattle.book.specs.declared.Checked.TheVariants.{Valid}

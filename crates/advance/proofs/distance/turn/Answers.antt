@@ -1,6 +1,6 @@
 -- `advance::distance::turn` meets its contract. Assumes nothing.
 use native.Mathlib.Omega.{arith}
-use Rattle.book.specs.TablesLaws.{goto-some}
+use Rattle.book.proofs.TablesLaws.{goto-some}
 use Rattle.layers.specs.CrossingLaws.{terminal}
 use Rattle.advance.specs.NearestLaws.{skipped-leads}
 use Rattle.advance.specs.Round.{kept, given}

@@ -4,7 +4,7 @@ use Prim.Native.Nat.{◌<◌}
 use native.Mathlib.Omega.{arith}
 use lib.ListN.{length, get_or, length-set}
 use Rattle.book.specs.Tables.{tables_of}
-use Rattle.book.specs.TablesLaws.{in-range}
+use Rattle.book.proofs.TablesLaws.{in-range}
 use Rattle.layers.specs.CrossingLaws.{terminals-are, states-are}
 use Rattle.advance.specs.NearestLaws.{near-low}
 use Rattle.advance.specs.Push.{StatesPushed}

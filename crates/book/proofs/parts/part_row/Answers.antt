@@ -4,7 +4,7 @@ use native.Mathlib.Omega.{arith}
 use Prim.Native.Nat.{◌-◌, ◌≤◌}
 use Rattle.book.specs.PartsLaws.{numbers}
 use Rattle.book.specs.Range.{fault}
-use Rattle.book.specs.SeenLaws.{Marks, marks-none, marks-more, marks-admitted}
+use Rattle.book.proofs.SeenLaws.{Marks, marks-none, marks-more, marks-admitted}
 use Rattle.book.specs.RowLaws.{Turns, turns-none, turns_more, turns-stop, turns-done}
 use Rattle.book.proofs.parts.part_row.Goals as goal
 

@@ -3,7 +3,7 @@ use native.Mathlib.Omega.{arith}
 use mathlib.Core.Path.{sym, ◌∙◌}
 use Prim.Native.Nat.{◌+◌, ◌*◌, ◌<◌}
 use Rattle.book.specs.IndexLaws.{index_below}
-use Rattle.book.specs.TablesLaws.{act-inside}
+use Rattle.book.proofs.TablesLaws.{act-inside}
 use Rattle.book.proofs.tables.action_at.Goals as goal
 
 pub returns : goal.returns

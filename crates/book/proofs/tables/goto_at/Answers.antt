@@ -4,7 +4,7 @@ use mathlib.Core.Path.{sym}
 use Prim.Native.Nat.{◌+◌, ◌*◌, ◌≤◌, ◌<◌}
 use Rattle.book.specs.IndexLaws.{index_below}
 use Rattle.book.specs.RangeLaws.{actions-few}
-use Rattle.book.specs.TablesLaws.{goto-inside}
+use Rattle.book.proofs.TablesLaws.{goto-inside}
 use Rattle.book.proofs.tables.goto_at.Goals as goal
 
 pub bounds-cells-p : goal.bounds-cells-p

@@ -1,5 +1,5 @@
 -- `book::tables::left_side` meets its contract. Assumes nothing.
-use Rattle.book.specs.TablesLaws.{lhs-inside}
+use Rattle.book.proofs.TablesLaws.{lhs-inside}
 use Rattle.book.proofs.tables.left_side.Goals as goal
 
 pub returns : goal.returns

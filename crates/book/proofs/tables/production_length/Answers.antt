@@ -1,5 +1,5 @@
 -- `book::tables::production_length` meets its contract. Assumes nothing.
-use Rattle.book.specs.TablesLaws.{len-inside}
+use Rattle.book.proofs.TablesLaws.{len-inside}
 use Rattle.book.proofs.tables.production_length.Goals as goal
 
 pub returns : goal.returns

@@ -1,6 +1,6 @@
 -- `certificate::check::check_against` meets its contract. Assumes nothing.
 use mathlib.Core.Path.{sym, ◌∙◌}
-use Rattle.book.specs.TablesLaws.{accepted-book}
+use Rattle.book.proofs.TablesLaws.{accepted-book}
 use Rattle.certificate.specs.CheckingLaws.{rows_fit, rows-refused}
 use Rattle.certificate.proofs.check.check_against.Goals as goal
 

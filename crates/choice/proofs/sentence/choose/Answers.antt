@@ -7,7 +7,7 @@ use lib.ListN.{length, take, length-set}
 use lib.Seq.{length-take-le}
 use Rattle.book.specs.Order.{place_in}
 use Rattle.book.specs.Tables.{tables_of}
-use Rattle.book.specs.TablesLaws.{in-range}
+use Rattle.book.proofs.TablesLaws.{in-range}
 use Rattle.layers.specs.CrossingLaws.{states-are, terminals-are}
 use Rattle.walk.specs.Choice.{Brings}
 use Rattle.walk.specs.Goal.{Aim}

@@ -8,7 +8,7 @@ use mathlib.Core.Path.{sym, ◌∙◌, subst}
 use Prim.Native.Nat.{ℕ}
 use lib.Seq.{length-take-le}
 use Rattle.book.specs.Tables.{tables_of}
-use Rattle.book.specs.TablesLaws.{in-range}
+use Rattle.book.proofs.TablesLaws.{in-range}
 use Rattle.walk.specs.Ends.{to_go}
 use Rattle.layers.specs.CrossingLaws.{states-are, terminal}
 use Rattle.choice.specs.StillLaws.{column-still}

@@ -1,7 +1,7 @@
 -- `finder::find_pair::find_in` meets its contract: refused, or done. Assumes nothing.
 use mathlib.Core.Path.{sym, ◌∙◌}
 use Rattle.book.specs.CallLaws.{steps-none}
-use Rattle.book.specs.TablesLaws.{accepted-book}
+use Rattle.book.proofs.TablesLaws.{accepted-book}
 use Rattle.finder.specs.FinderLaws.{pair-admitted}
 use Rattle.work.specs.WorkLaws.{told-cleared}
 use Rattle.finder.proofs.find_pair.find_in.Goals as goal

@@ -2,7 +2,7 @@
 use mathlib.Core.Path.{sym}
 use native.Mathlib.Omega.{arith}
 use lib.Seq.{length-take-le}
-use Rattle.forms.specs.FormsLaws.{plain-holds, plain-tables}
+use Rattle.forms.proofs.FormsLaws.{plain-holds, plain-tables}
 use Rattle.layers.specs.CrossingLaws.{terminals-are}
 use Rattle.finder.specs.PairLaws.{answered-rank}
 use Rattle.finder.proofs.find_pair.solve.Goals as goal

@@ -1,7 +1,7 @@
 -- `finder::telling::tell_least` meets its contract: the exact cost says which answer it is. Assumes nothing.
 use native.Mathlib.Omega.{arith}
 use Rattle.book.specs.Tables.{tables_of}
-use Rattle.book.specs.TablesLaws.{in-range}
+use Rattle.book.proofs.TablesLaws.{in-range}
 use Rattle.finder.specs.PairLaws.{brings-exact, answered-unreached, answered-long, answered-sentence}
 use Rattle.finder.proofs.telling.tell_least.Goals as goal
 

@@ -2,7 +2,7 @@
 use native.Mathlib.Omega.{arith}
 use Rattle.book.specs.BookLaws.{deliver-short, deliver-whole}
 use Rattle.forms.specs.Forms.{in_form_1, to_form_1}
-use Rattle.forms.specs.WritingLaws.{bounds, form1-length, moved-refused, in_order_lem}
+use Rattle.forms.proofs.WritingLaws.{bounds, form1-length, moved-refused, in_order_lem}
 use Rattle.forms.proofs.converters.convert_to_1.Goals as goal
 
 pub overflow_mul-d : goal.overflow_mul-d

@@ -1,9 +1,9 @@
 -- `forms::converters::convert_to_2` meets its contract. Assumes nothing.
 use native.Mathlib.Omega.{arith}
 use Rattle.book.specs.BookLaws.{deliver-short, deliver-whole}
-use Rattle.book.specs.TablesLaws.{accepted-book}
+use Rattle.book.proofs.TablesLaws.{accepted-book}
 use Rattle.forms.specs.Forms.{in_form_2, to_form_2}
-use Rattle.forms.specs.WritingLaws.{bounds, form2-length}
+use Rattle.forms.proofs.WritingLaws.{bounds, form2-length}
 use Rattle.forms.proofs.converters.convert_to_2.Goals as goal
 
 pub overflow_sub-n : goal.overflow_sub-n

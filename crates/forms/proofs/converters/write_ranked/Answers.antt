@@ -1,6 +1,6 @@
 -- `forms::converters::write_ranked` meets its contract. Assumes nothing.
 use native.Mathlib.Omega.{arith}
-use Rattle.forms.specs.WritingLaws.{bounds, form2-length, ranked-written}
+use Rattle.forms.proofs.WritingLaws.{bounds, form2-length, ranked-written}
 use Rattle.forms.proofs.converters.write_ranked.Goals as goal
 
 pub overflow_mul-front : goal.overflow_mul-front

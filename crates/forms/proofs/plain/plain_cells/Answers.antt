@@ -1,7 +1,7 @@
 -- `forms::plain::plain_cells` meets its contract. Assumes nothing.
 use native.Mathlib.Omega.{arith}
 use lib.Seq.{take-append_seam}
-use Rattle.forms.specs.WritingLaws.{bounds, form1-length}
+use Rattle.forms.proofs.WritingLaws.{bounds, form1-length}
 use Rattle.forms.proofs.plain.plain_cells.Goals as goal
 
 pub write_plain-requires : goal.write_plain-requires

@@ -2,7 +2,7 @@
 use mathlib.Core.Path.{◌∙◌}
 use native.Mathlib.Omega.{arith}
 use lib.ListN.{length-set}
-use Rattle.forms.specs.WritingLaws.{bounds, front-written}
+use Rattle.forms.proofs.WritingLaws.{bounds, front-written}
 use Rattle.forms.proofs.plain.write_front.Goals as goal
 
 pub overflow_mul-d : goal.overflow_mul-d

@@ -1,6 +1,6 @@
 -- `forms::plain::write_plain` meets its contract. Assumes nothing.
 use native.Mathlib.Omega.{arith}
-use Rattle.forms.specs.WritingLaws.{bounds, form1-length, plain-written}
+use Rattle.forms.proofs.WritingLaws.{bounds, form1-length, plain-written}
 use Rattle.forms.proofs.plain.write_plain.Goals as goal
 
 pub overflow_mul-front : goal.overflow_mul-front

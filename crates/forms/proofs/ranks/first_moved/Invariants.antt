@@ -7,7 +7,7 @@ use lib.Dec.{eqb}
 use Rattle.book.specs.Tables.{rank_of}
 use Rattle.forms.specs.Forms.{lowest}
 use Rattle.forms.specs.RankLaws.{rank_below, lowest-more, lowest-found, lowest-done}
-use Rattle.forms.specs.WritingLaws.{bounds}
+use Rattle.forms.proofs.WritingLaws.{bounds}
 use Rattle.forms.proofs.ranks.first_moved.Given as goal
 
 abbrev pub invariant-loop-a : goal.invariant-loop-a

@@ -7,7 +7,7 @@ use lib.Seq.{paste, paste-zero, paste-suc}
 use Rattle.number.specs.Lent.{firsts}
 use Rattle.number.specs.LentLaws.{firsts-length, firsts-entry}
 use Rattle.book.specs.Tables.{rank_of}
-use Rattle.forms.specs.WritingLaws.{bounds}
+use Rattle.forms.proofs.WritingLaws.{bounds}
 use Rattle.forms.proofs.ranks.put_ranks.Given as goal
 
 abbrev pub invariant-loop-a : goal.invariant-loop-a

@@ -1,6 +1,6 @@
 -- `forms::ranks::rank_at` meets its contract. Assumes nothing.
 use native.Mathlib.Omega.{arith}
-use Rattle.forms.specs.WritingLaws.{bounds}
+use Rattle.forms.proofs.WritingLaws.{bounds}
 use Rattle.forms.specs.RankLaws.{rank-told, rank-number}
 use Rattle.forms.proofs.ranks.rank_at.Goals as goal
 

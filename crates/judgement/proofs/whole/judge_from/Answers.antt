@@ -2,7 +2,7 @@
 use mathlib.Core.Path.{sym}
 use native.Mathlib.Omega.{arith}
 use lib.Seq.{length-take-le}
-use Rattle.forms.specs.FormsLaws.{plain-holds, plain-tables}
+use Rattle.forms.proofs.FormsLaws.{plain-holds, plain-tables}
 use Rattle.judgement.proofs.whole.judge_from.Goals as goal
 
 pub slice_bounds-judge_plain-end : goal.slice_bounds-judge_plain-end

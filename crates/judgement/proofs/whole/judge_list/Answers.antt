@@ -1,7 +1,7 @@
 -- `judgement::whole::judge_list` meets its contract: what is admitted is judged, and the lent cells are cleared. Assumes nothing.
 use mathlib.Core.Path.{sym, ◌∙◌}
 use native.Mathlib.Omega.{arith}
-use Rattle.book.specs.TablesLaws.{accepted-book}
+use Rattle.book.proofs.TablesLaws.{accepted-book}
 use Rattle.course.specs.AcceptedLaws.{list-accepted, accepted-standing}
 use Rattle.judgement.specs.AdmissionLaws.{judge-room, judge-unroomed, judge-answered}
 use Rattle.judgement.proofs.whole.judge_list.Goals as goal

@@ -2,7 +2,7 @@
 use native.Mathlib.Omega.{arith}
 use Prim.Native.Nat.{ℕ}
 use lib.ListN.{length-replicate}
-use Rattle.book.specs.TablesLaws.{in-range}
+use Rattle.book.proofs.TablesLaws.{in-range}
 use Rattle.walk.specs.Scale.{plain, unreached}
 use Rattle.layers.specs.CrossingLaws.{states-are}
 use Rattle.layers.specs.StatesLaws.{listed-most}

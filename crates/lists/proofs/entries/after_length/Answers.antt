@@ -1,6 +1,6 @@
 -- `lists::entries::after_length` meets its contract: the symbols, the lookahead, then the rest. Assumes nothing.
 use mathlib.Core.Path.{sym, ◌∙◌}
-use Rattle.lists.specs.EntryLaws.{symbols-stop, symbols-on}
+use Rattle.lists.proofs.EntryLaws.{symbols-stop, symbols-on}
 use Rattle.lists.proofs.entries.after_length.Goals as goal
 
 pub returns-in-Refused : goal.returns-in-Refused

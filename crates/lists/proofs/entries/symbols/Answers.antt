@@ -1,5 +1,5 @@
 -- `lists::entries::symbols` meets its contract: what of the part stands in the list. Assumes nothing.
-use Rattle.lists.specs.EntryLaws.{part_cut, part_none}
+use Rattle.lists.proofs.EntryLaws.{part_cut, part_none}
 use native.Mathlib.Nat.{add-sub_cancel_left}
 use native.Mathlib.Omega.{arith}
 use Rattle.lists.proofs.entries.symbols.Goals as goal

@@ -1,6 +1,6 @@
 -- `lists::index::nth_entry` meets its contract: the check, then the entry. Assumes nothing.
 use mathlib.Core.Path.{sym, ◌∙◌}
-use Rattle.lists.specs.NthLaws.{nth-stop, nth_on}
+use Rattle.lists.proofs.NthLaws.{nth-stop, nth_on}
 use Rattle.lists.proofs.index.nth_entry.Goals as goal
 
 pub returns-in-Refused : goal.returns-in-Refused

@@ -1,6 +1,6 @@
 -- `lists::list::check_entries` meets its contract: the count, the entries, and the end. Assumes nothing.
 use mathlib.Core.Path.{sym, ◌∙◌}
-use Rattle.lists.specs.ListLaws.{listing-stop, listing-on}
+use Rattle.lists.proofs.ListLaws.{listing-stop, listing-on}
 use Rattle.lists.proofs.list.check_entries.Goals as goal
 
 pub returns-in-Refused : goal.returns-in-Refused

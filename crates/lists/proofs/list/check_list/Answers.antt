@@ -1,7 +1,7 @@
 -- `lists::list::check_list` meets its contract: the book, then the list. Assumes nothing.
 use mathlib.Core.Path.{sym, ◌∙◌, ap}
 use Rattle.lists.specs.List.{listing}
-use Rattle.lists.specs.ListLaws.{against-stop, against-on}
+use Rattle.lists.proofs.ListLaws.{against-stop, against-on}
 use Rattle.lists.proofs.list.check_list.Goals as goal
 
 pub returns-in-Refused : goal.returns-in-Refused

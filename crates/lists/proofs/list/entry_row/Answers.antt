@@ -2,7 +2,7 @@
 use mathlib.Core.Path.{sym, ◌∙◌}
 use native.Mathlib.Omega.{arith}
 use Prim.Native.Nat.{◌-◌, ◌≤◌}
-use Rattle.lists.specs.ListLaws.{ListPassed, list-passed-none, list-passed-more, passed-stop, passed-done}
+use Rattle.lists.proofs.ListLaws.{ListPassed, list-passed-none, list-passed-more, passed-stop, passed-done}
 use Rattle.lists.proofs.list.entry_row.Goals as goal
 
 pub loop-i-init : goal.loop-i-init

@@ -2,7 +2,7 @@
 use mathlib.Core.Path.{sym}
 use native.Mathlib.Omega.{arith}
 use lib.Seq.{length-take-le}
-use Rattle.forms.specs.FormsLaws.{plain-holds, plain-tables}
+use Rattle.forms.proofs.FormsLaws.{plain-holds, plain-tables}
 use Rattle.machine.proofs.driver.drive_book.Goals as goal
 
 pub slice_bounds-drive-end : goal.slice_bounds-drive-end

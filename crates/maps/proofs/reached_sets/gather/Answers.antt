@@ -1,5 +1,5 @@
 -- `maps::reached_sets::gather` meets its contract: the sets of the distances. Assumes nothing.
-use Rattle.book.specs.TablesLaws.{accepted-book}
+use Rattle.book.proofs.TablesLaws.{accepted-book}
 use Rattle.maps.specs.ReachedLaws.{sets-gathered}
 use borrow.Author.Rules.{rules}
 use Rattle.maps.proofs.reached_sets.gather.Goals as goal

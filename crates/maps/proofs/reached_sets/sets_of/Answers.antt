@@ -1,7 +1,7 @@
 -- `maps::reached_sets::sets_of` meets its contract: refused, or done. Assumes nothing.
 use mathlib.Core.Path.{sym, ◌∙◌}
 use Rattle.book.specs.CallLaws.{steps-none}
-use Rattle.book.specs.TablesLaws.{accepted-book}
+use Rattle.book.proofs.TablesLaws.{accepted-book}
 use Rattle.maps.specs.MapLaws.{sets-admitted}
 use Rattle.work.specs.WorkLaws.{told-cleared}
 use Rattle.maps.proofs.reached_sets.sets_of.Goals as goal

@@ -2,7 +2,7 @@
 use mathlib.Core.Path.{sym}
 use native.Mathlib.Omega.{arith}
 use lib.Seq.{length-take-le}
-use Rattle.forms.specs.FormsLaws.{plain-holds}
+use Rattle.forms.proofs.FormsLaws.{plain-holds}
 use Rattle.maps.specs.AlikeLaws.{start_plain}
 use Rattle.maps.proofs.start_distances.distances_in.Goals as goal
 

@@ -1,5 +1,5 @@
 -- `maps::whole_map::fill` meets its contract: the rows of the distances are the map. Assumes nothing.
-use Rattle.book.specs.TablesLaws.{accepted-book}
+use Rattle.book.proofs.TablesLaws.{accepted-book}
 use Rattle.maps.specs.MapLaws.{rows-map}
 use borrow.Author.Rules.{rules}
 use Rattle.maps.proofs.whole_map.fill.Goals as goal

@@ -1,7 +1,7 @@
 -- `maps::whole_map::map_of` meets its contract: refused, or done. Assumes nothing.
 use mathlib.Core.Path.{sym, ◌∙◌}
 use Rattle.book.specs.CallLaws.{steps-none}
-use Rattle.book.specs.TablesLaws.{accepted-book}
+use Rattle.book.proofs.TablesLaws.{accepted-book}
 use Rattle.maps.specs.MapLaws.{map-admitted}
 use Rattle.work.specs.WorkLaws.{told-cleared}
 use Rattle.maps.proofs.whole_map.map_of.Goals as goal

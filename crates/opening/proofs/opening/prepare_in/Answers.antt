@@ -3,8 +3,8 @@ use native.Mathlib.Omega.{arith}
 use mathlib.Core.Path.{refl, sym, ◌∙◌}
 use lib.Seq.{length-take-le}
 use Rattle.book.specs.CallLaws.{steps-none}
-use Rattle.book.specs.TablesLaws.{accepted-book}
-use Rattle.forms.specs.FormsLaws.{plain-holds}
+use Rattle.book.proofs.TablesLaws.{accepted-book}
+use Rattle.forms.proofs.FormsLaws.{plain-holds}
 use Rattle.opening.specs.PrepareLaws.{listing-room, beyond-same}
 use Rattle.opening.proofs.opening.prepare_in.Goals as goal
 

@@ -1,6 +1,6 @@
 -- `sentences::all_pairs::solve` meets its contract: the plain cells have the book's tables, and the row of terminals its ranks. Assumes nothing.
 use Rattle.book.specs.Tables.{rank_of}
-use Rattle.forms.specs.FormsLaws.{plain-holds, plain-tables}
+use Rattle.forms.proofs.FormsLaws.{plain-holds, plain-tables}
 use Rattle.layers.specs.CrossingLaws.{terminals-are}
 use Rattle.sentences.specs.PartsLaws.{all-rank}
 use lib.Seq.{length-take-le}

@@ -3,7 +3,7 @@ use native.Mathlib.Omega.{arith}
 use mathlib.Core.Path.{◌≡◌}
 use Prim.Native.Nat.{ℕ}
 use lib.ListN.{length, replicate, length-replicate}
-use Rattle.book.specs.TablesLaws.{in-range}
+use Rattle.book.proofs.TablesLaws.{in-range}
 use Rattle.walk.specs.Scale.{plain, unreached}
 use Rattle.distances.specs.TableLaws.{table-usable, table-closed, table-witnessed}
 use Rattle.choice.specs.ChoosingLaws.{start-stacked, start-stack}

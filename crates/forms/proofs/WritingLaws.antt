@@ -9,7 +9,8 @@ use Rattle.book.specs.Book.{read, of_cells}
 use Rattle.book.specs.Range.{part_length}
 use Rattle.book.specs.RangeLaws.{ranks-few, actions-few, gotos-few}
 use Rattle.book.specs.Tables.{sizes_of, rank_of}
-use Rattle.book.specs.TablesLaws.{Accepted, IsBook, accepted-book}
+use Rattle.book.specs.TablesLaws.{Accepted, IsBook}
+use Rattle.book.proofs.TablesLaws.{accepted-book}
 use Rattle.book.specs.declared.Part.TheVariants.{Ranks}
 use Rattle.book.specs.declared.Sizes.{Sizes}
 use Rattle.book.specs.declared.Written.TheVariants.{Refused as WrittenRefused}

@@ -1,0 +1,2 @@
+pub mod SeenLaws
+pub mod TablesLaws

@@ -1,0 +1,3 @@
+pub mod AlikeLaws
+pub mod FormsLaws
+pub mod WritingLaws

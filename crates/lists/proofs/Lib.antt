@@ -1,0 +1,4 @@
+pub mod EntryLaws
+pub mod ListLaws
+pub mod NthLaws
+pub mod ReadingLaws
