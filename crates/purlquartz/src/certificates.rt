@@ -5,8 +5,7 @@ ghost use Rattle.told.specs.Told.{told_verdict};
 
 use told::tell_verdict;
 
-#[unsafe(no_mangle)]
-pub extern "C" fn purlquartz_check_certificate(
+pub fn purlquartz_check_certificate(
     cells: &[u16],
     crossings: &[u16],
     pairs: &[u16],

@@ -8,34 +8,25 @@ ghost use Rattle.told.specs.Told.{told_listed, told_entry, told_next, told_judge
 
 use told::{tell_entry, tell_joined, tell_judged, tell_listed, tell_next, tell_sorted};
 
-#[unsafe(no_mangle)]
-pub extern "C" fn purlquartz_check_list(cells: &[u16], list: &[u8], answer: &mut [u64; 8])
+pub fn purlquartz_check_list(cells: &[u16], list: &[u8], answer: &mut [u64; 8])
     ensures { answer.new ≡ told_listed (listing list.now (list_in cells.now list.now)) }
 {
     *answer = tell_listed(lists::check_list(cells, list));
 }
 
-#[unsafe(no_mangle)]
-pub extern "C" fn purlquartz_entry(cells: &[u16], list: &[u8], index: usize, answer: &mut [u64; 8])
+pub fn purlquartz_entry(cells: &[u16], list: &[u8], index: usize, answer: &mut [u64; 8])
     ensures { answer.new ≡ told_entry (nth_in index (list_in cells.now list.now)) }
 {
     *answer = tell_entry(lists::nth_entry(cells, list, index));
 }
 
-#[unsafe(no_mangle)]
-pub extern "C" fn purlquartz_next_entry(
-    list: &[u8],
-    offset: usize,
-    left: usize,
-    answer: &mut [u64; 8],
-)
+pub fn purlquartz_next_entry(list: &[u8], offset: usize, left: usize, answer: &mut [u64; 8])
     ensures { answer.new ≡ told_next (next_at list.now offset left) }
 {
     *answer = tell_next(lists::next_at(list, offset, left));
 }
 
-#[unsafe(no_mangle)]
-pub extern "C" fn purlquartz_judge(
+pub fn purlquartz_judge(
     cells: &[u16],
     list: &[u8],
     work: &mut [u16],
@@ -47,21 +38,14 @@ pub extern "C" fn purlquartz_judge(
     *answer = tell_judged(judgement::judge(cells, list, work, stack));
 }
 
-#[unsafe(no_mangle)]
-pub extern "C" fn purlquartz_sort_list(
-    cells: &[u16],
-    list: &[u8],
-    out: &mut [u8],
-    answer: &mut [u64; 8],
-)
+pub fn purlquartz_sort_list(cells: &[u16], list: &[u8], out: &mut [u8], answer: &mut [u64; 8])
     ensures answer_after { answer.new ≡ told_sorted (sorts cells.now list.now out.old).0 }
     ensures out_after { out.new ≡ (sorts cells.now list.now out.old).1 }
 {
     *answer = tell_sorted(sorting::sort_list(cells, list, out));
 }
 
-#[unsafe(no_mangle)]
-pub extern "C" fn purlquartz_join_lists(
+pub fn purlquartz_join_lists(
     cells: &[u16],
     first: &[u8],
     second: &[u8],

@@ -6,8 +6,7 @@ ghost use Rattle.told.specs.Told.{told_written, told_found, Told};
 
 use told::{tell_found, tell_written};
 
-#[unsafe(no_mangle)]
-pub extern "C" fn purlquartz_find(
+pub fn purlquartz_find(
     cells: &[u16],
     state: u16,
     lookahead: u16,
@@ -20,8 +19,7 @@ pub extern "C" fn purlquartz_find(
     *answer = tell_found(finder::find(cells, state, lookahead, work, buffer));
 }
 
-#[unsafe(no_mangle)]
-pub extern "C" fn purlquartz_find_break(
+pub fn purlquartz_find_break(
     cells: &[u16],
     state: u16,
     lookahead: u16,
@@ -34,20 +32,13 @@ pub extern "C" fn purlquartz_find_break(
     *answer = tell_found(finder::find_break(cells, state, lookahead, work, buffer));
 }
 
-#[unsafe(no_mangle)]
-pub extern "C" fn purlquartz_map(
-    cells: &[u16],
-    work: &mut [u16],
-    map: &mut [u16],
-    answer: &mut [u64; 8],
-)
+pub fn purlquartz_map(cells: &[u16], work: &mut [u16], map: &mut [u16], answer: &mut [u64; 8])
     ensures { Told (Maps cells.now work.old map.old) told_written answer.new (work.new, map.new) }
 {
     *answer = tell_written(maps::map(cells, work, map));
 }
 
-#[unsafe(no_mangle)]
-pub extern "C" fn purlquartz_sets(
+pub fn purlquartz_sets(
     cells: &[u16],
     work: &mut [u16],
     masks: &mut [u32],
@@ -59,8 +50,7 @@ pub extern "C" fn purlquartz_sets(
     *answer = tell_written(maps::sets(cells, work, masks, sizes));
 }
 
-#[unsafe(no_mangle)]
-pub extern "C" fn purlquartz_sentences(
+pub fn purlquartz_sentences(
     cells: &[u16],
     work: &mut [u16],
     map: &mut [u16],
@@ -72,8 +62,7 @@ pub extern "C" fn purlquartz_sentences(
     *answer = tell_written(sentences::sentences(cells, work, map, bytes));
 }
 
-#[unsafe(no_mangle)]
-pub extern "C" fn purlquartz_break_sentences(
+pub fn purlquartz_break_sentences(
     cells: &[u16],
     work: &mut [u16],
     map: &mut [u16],

@@ -5,8 +5,7 @@ ghost use Rattle.told.specs.Told.{told_ran};
 
 use told::tell_ran;
 
-#[unsafe(no_mangle)]
-pub extern "C" fn purlquartz_run(
+pub fn purlquartz_run(
     cells: &[u16],
     sentence: &[u8],
     lookahead: u16,

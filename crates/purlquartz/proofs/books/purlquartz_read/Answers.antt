@@ -3,4 +3,4 @@ use mathlib.Core.Path.{refl}
 use Rattle.purlquartz.proofs.books.purlquartz_read.Goals as goal
 
 pub returns : goal.returns
-returns c = rw (← c.read.ensures) (c.tell_written.ensures, refl)
+returns c = rw (← c.read.ensures) record { answer_after = c.tell_written.ensures; cells_after = refl }

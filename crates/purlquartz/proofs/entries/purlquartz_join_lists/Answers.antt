@@ -3,4 +3,4 @@ use mathlib.Core.Path.{refl}
 use Rattle.purlquartz.proofs.entries.purlquartz_join_lists.Goals as goal
 
 pub returns : goal.returns
-returns c = rw (← c.join_lists.ensures) (c.tell_joined.ensures, refl)
+returns c = rw (← c.join_lists.ensures) record { answer_after = c.tell_joined.ensures; out_after = refl }

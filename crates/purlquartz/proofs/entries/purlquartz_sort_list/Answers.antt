@@ -3,4 +3,4 @@ use mathlib.Core.Path.{refl}
 use Rattle.purlquartz.proofs.entries.purlquartz_sort_list.Goals as goal
 
 pub returns : goal.returns
-returns c = rw (← c.sort_list.ensures) (c.tell_sorted.ensures, refl)
+returns c = rw (← c.sort_list.ensures) record { answer_after = c.tell_sorted.ensures; out_after = refl }

@@ -3,4 +3,4 @@ use mathlib.Core.Path.{refl}
 use Rattle.purlquartz.proofs.runs.purlquartz_run.Goals as goal
 
 pub returns : goal.returns
-returns c = rw (← c.run.ensures) (c.tell_ran.ensures, refl)
+returns c = rw (← c.run.ensures) record { answer_after = c.tell_ran.ensures; stack_after = refl }
