@@ -4,9 +4,10 @@ use Rattle.std.proofs.Common.{inl, inr, ⊎_elim, le_trans, le_refl, arith}
 use Rattle.book.specs.Tables.{Tables}
 use Rattle.book.specs.TablesLaws.{InRange}
 use Rattle.walk.specs.Scale.{Scale, unreached}
-use Rattle.walk.specs.CostLaws.{plus-mono, plus-far-right}
+use Rattle.walk.proofs.CostLaws.{plus-mono, plus-far-right}
 use Rattle.walk.specs.Claims.{Claims, Claimed, none, Least}
-use Rattle.walk.specs.ClaimsLaws.{claimed-terminal, claimed-shift, claimed-goto, Start, shift-first, goto-first, claimed-start}
+use Rattle.walk.specs.ClaimsLaws.{Start, shift-first, goto-first}
+use Rattle.walk.proofs.ClaimsLaws.{claimed-terminal, claimed-shift, claimed-goto, claimed-start}
 use Rattle.walk.specs.Layers.{Sooner, from-shift, from-goto}
 use Rattle.breaks.specs.BreakClaims.{LayerTo}
 use Rattle.approach.specs.Approach.{SoonerLayer}

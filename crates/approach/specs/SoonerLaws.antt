@@ -6,7 +6,7 @@ use Rattle.book.specs.Tables.{Tables, tables_of}
 use Rattle.book.specs.TablesLaws.{Holds}
 use Rattle.book.specs.declared.Sizes.{Sizes}
 use Rattle.walk.specs.Scale.{Scale, unreached}
-use Rattle.walk.specs.CostLaws.{plus-bounded}
+use Rattle.walk.proofs.CostLaws.{plus-bounded}
 use Rattle.walk.specs.Claims.{Claims, Least}
 use Rattle.walk.specs.Layers.{Sooner, from-shift, from-goto}
 use Rattle.layers.specs.CrossingLaws.{terminals-are, states-are}

@@ -13,7 +13,7 @@ use Rattle.book.proofs.TablesLaws.{in-range}
 use Rattle.book.specs.declared.Sizes.{Sizes}
 use Rattle.walk.specs.Scale.{Scale, unreached}
 use Rattle.walk.specs.Claims.{Claims, Least}
-use Rattle.walk.specs.ClaimsLaws.{weights-least}
+use Rattle.walk.proofs.ClaimsLaws.{weights-least}
 use Rattle.walk.specs.Fill.{filled}
 use Rattle.walk.specs.FillLaws.{filled-size, filled-inside, filled-outside}
 use Rattle.layers.specs.Crossing.{claim_in}

@@ -4,10 +4,11 @@ use Rattle.book.specs.Tables.{Tables}
 use Rattle.book.specs.declared.Action.TheVariants.{Reduce}
 use Rattle.walk.specs.Scale.{Scale, long, unreached}
 use Rattle.walk.specs.Cost.{Exact}
-use Rattle.walk.specs.CostLaws.{exact_none}
+use Rattle.walk.proofs.CostLaws.{exact_none}
 use Rattle.walk.specs.Breaks.{Breaks}
 use Rattle.walk.specs.Answer.{Outcome, Unreached, Long, AnswerBreak}
-use Rattle.walk.specs.AnswerLaws.{mapped, best-exact, best_none, best-long, best-one}
+use Rattle.walk.specs.AnswerLaws.{mapped}
+use Rattle.walk.proofs.AnswerLaws.{best-exact, best_none, best-long, best-one}
 use Rattle.breaks.specs.BreakingLaws.{breaks-reduce}
 
 -- only a reduce action breaks

@@ -7,18 +7,18 @@ use Rattle.book.specs.Tables.{Tables}
 use Rattle.book.specs.TablesLaws.{InRange}
 use Rattle.book.specs.declared.Action.TheVariants.{Reduce}
 use Rattle.walk.specs.Walk.{first}
-use Rattle.walk.specs.WalkLaws.{walk-terminal}
+use Rattle.walk.proofs.WalkLaws.{walk-terminal}
 use Rattle.walk.specs.Scale.{Scale, unreached, cap}
 use Rattle.walk.specs.Cost.{cost, Attained, Exact}
-use Rattle.walk.specs.CostLaws.{attained-map}
+use Rattle.walk.proofs.CostLaws.{attained-map}
 use Rattle.walk.specs.Claims.{Claims, Closed, Witnessed, Least, ClaimedDescends, Matches}
-use Rattle.walk.specs.ClaimsLaws.{closed-below, witnessed-above, claimed-terminal, walks-to-matches, descends-matches, ends-serve}
-use Rattle.walk.specs.MatchesLaws.{matches-exact, matches-map}
+use Rattle.walk.proofs.ClaimsLaws.{closed-below, witnessed-above, claimed-terminal, walks-to-matches, descends-matches, ends-serve}
+use Rattle.walk.proofs.MatchesLaws.{matches-exact, matches-map}
 use Rattle.walk.specs.Breaks.{Breaks}
 use Rattle.walk.specs.Goal.{BreaksAt}
 use Rattle.walk.specs.Ends.{end_cost}
 use Rattle.walk.specs.Choice.{Guides}
-use Rattle.walk.specs.ChoiceLaws.{completes-matches}
+use Rattle.walk.proofs.ChoiceLaws.{completes-matches}
 use Rattle.breaks.specs.Breaking.{Far, BreaksOn, far, near, GetsBreak}
 use Rattle.breaks.specs.BreakingLaws.{break-lands, break-start, far-breaks, short-breaks}
 use Rattle.breaks.specs.BreakClaims.{ClaimedFar, BreakArrival, ToBreak, ClaimedBreak, claimed-far, claimed-near}

@@ -15,7 +15,7 @@ use Rattle.machine.specs.RunLaws.{EndsAt, run_ends}
 use Rattle.machine.specs.declared.Ending.TheVariants.{Broken}
 use Rattle.machine.specs.declared.Stop.{Stop}
 use Rattle.walk.specs.Walk.{Walk, first, Chain, arrives, pops, Lands}
-use Rattle.walk.specs.WalkLaws.{walk-terminal, walk-chain, chain-walk, chain-append, chain-under, pop, pop-short, descends-map, descends-some, lands-runs, runs-lands}
+use Rattle.walk.proofs.WalkLaws.{walk-terminal, walk-chain, chain-walk, chain-append, chain-under, pop, pop-short, descends-map, descends-some, lands-runs, runs-lands}
 use Rattle.walk.specs.Breaks.{Breaks}
 use Rattle.walk.specs.Goal.{BreaksAt, breaking}
 use Rattle.walk.specs.Ends.{bare}

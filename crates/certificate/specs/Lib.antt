@@ -11,12 +11,8 @@ pub mod SearchLaws
 pub mod Verdict
 pub mod SentencesLaws
 pub mod ChecksLaws
-pub mod VerdictLaws
-pub mod FaultLaws
 pub mod CheckingLaws
 pub mod AlikeLaws
-pub mod WrongLaws
 pub mod Written
 pub mod WrittenLaws
 pub mod Examples
-pub mod ExamplesLaws

@@ -8,13 +8,13 @@ use Rattle.book.specs.TablesLaws.{InRange}
 use Rattle.machine.specs.Machine.{done}
 use Rattle.walk.specs.Scale.{Scale, weight}
 use Rattle.walk.specs.Cost.{Exact}
-use Rattle.walk.specs.CostLaws.{cost-append, attained-map}
+use Rattle.walk.proofs.CostLaws.{cost-append, attained-map}
 use Rattle.walk.specs.Claims.{Claims}
 use Rattle.walk.specs.Answer.{Sentence}
-use Rattle.walk.specs.AnswerLaws.{best-map}
+use Rattle.walk.proofs.AnswerLaws.{best-map}
 use Rattle.walk.specs.ShiftLaws.{Ready}
 use Rattle.walk.specs.Choice.{Chosen, WithinOf, Brings, LandsIn, Guides}
-use Rattle.walk.specs.ChoiceLaws.{chosen_none, choose, choose-some, choose-ready, choose-terminal, choose-weight, best-chosen, after_more, brings-onwards}
+use Rattle.walk.proofs.ChoiceLaws.{chosen_none, choose, choose-some, choose-ready, choose-terminal, choose-weight, best-chosen, after_more, brings-onwards}
 use Rattle.choice.specs.Choice.{Completing, LowestBy}
 use Rattle.choice.specs.Choosing.{Choosing, Chose}
 use Rattle.choice.specs.Taking.{Stacked, Taken}

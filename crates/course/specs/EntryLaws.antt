@@ -17,7 +17,7 @@ use Rattle.machine.specs.declared.Ending.TheVariants.{Error, Broken}
 use Rattle.machine.specs.declared.Stop.{Stop}
 use Rattle.breaks.specs.BreakingLaws.{run-broken}
 use Rattle.walk.specs.Walk.{Walk, here, shifted, crossed}
-use Rattle.walk.specs.WalkLaws.{reaches-walk}
+use Rattle.walk.proofs.WalkLaws.{reaches-walk}
 use Rattle.layers.specs.CrossingLaws.{terminals-are, states-are}
 use Rattle.lists.specs.Entry.{sentence}
 use Rattle.lists.specs.EntryLaws.{Spelled}

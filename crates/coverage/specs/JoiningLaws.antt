@@ -22,9 +22,9 @@ use Rattle.items.specs.Items.{Item, items, list_bytes}
 use Rattle.items.specs.WrittenLaws.{items-few}
 use Rattle.course.specs.Course.{Course, fault, clean, in_state, course}
 use Rattle.sorting.specs.FittedLaws.{Fits, fits-front, fits_told, told-fits}
-use Rattle.sorting.specs.OrderLaws.{ordered-free}
+use Rattle.sorting.proofs.OrderLaws.{ordered-free}
 use Rattle.sorting.specs.Sorting.{by_state}
-use Rattle.sorting.specs.SortingLaws.{list-of, read-so, list-valid, list-below, ordered-bytes}
+use Rattle.sorting.proofs.SortingLaws.{list-of, read-so, list-valid, list-below, ordered-bytes}
 use Rattle.joining.specs.Joining.{shorter, joined, joined_bytes, joined_by, joins}
 use Rattle.coverage.specs.UnionLaws.{joined-self, joined-none, none-joined, joined-valid, joined-clean, joined_length, joined-in-state, joined-covers}
 use Rattle.joining.specs.declared.Joined.{Joined}

@@ -9,10 +9,13 @@ use Rattle.book.specs.Tables.{Tables}
 use Rattle.items.specs.Items.{Item}
 use Rattle.items.specs.Valid.{AllValid}
 use Rattle.course.specs.Course.{state_in, in_state, clean, course}
-use Rattle.course.specs.CourseLaws.{course-passes, in-state-here, in-state-other}
-use Rattle.sorting.specs.OrderLaws.{AllBelow, none-past, ordered-free, clean-single}
+use Rattle.course.specs.CourseLaws.{in-state-here, in-state-other}
+use Rattle.course.proofs.CourseLaws.{course-passes}
+use Rattle.sorting.specs.OrderLaws.{AllBelow}
+use Rattle.sorting.proofs.OrderLaws.{none-past, ordered-free, clean-single}
 use Rattle.sorting.specs.Sorting.{by_state}
-use Rattle.sorting.specs.StatewiseLaws.{statewise-same, statewise-valid, in-state-valid, Single, statewise-clean, statewise-length, statewise-in-state}
+use Rattle.sorting.specs.StatewiseLaws.{Single}
+use Rattle.sorting.proofs.StatewiseLaws.{statewise-same, statewise-valid, in-state-valid, statewise-clean, statewise-length, statewise-in-state}
 use Rattle.joining.specs.Joining.{shorter, joined}
 
 -- ---- whether there is an entry

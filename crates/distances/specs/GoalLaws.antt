@@ -11,12 +11,12 @@ use Rattle.book.specs.declared.Sizes.{Sizes}
 use Rattle.walk.specs.Walk.{WalksTo}
 use Rattle.walk.specs.Scale.{Scale, unreached}
 use Rattle.walk.specs.Cost.{Exact}
-use Rattle.walk.specs.CostLaws.{plus-far-left, plus-far-right}
+use Rattle.walk.proofs.CostLaws.{plus-far-left, plus-far-right}
 use Rattle.walk.specs.Claims.{Claims, Least, Weighs}
-use Rattle.walk.specs.MatchesLaws.{matches-exact, exact-matches}
-use Rattle.walk.specs.ClaimsLaws.{weights-least, onward-matches}
+use Rattle.walk.proofs.MatchesLaws.{matches-exact, exact-matches}
+use Rattle.walk.proofs.ClaimsLaws.{weights-least, onward-matches}
 use Rattle.walk.specs.Layers.{Sooner, from-shift, from-goto, ToGoal}
-use Rattle.walk.specs.LayersLaws.{goal-least}
+use Rattle.walk.proofs.LayersLaws.{goal-least}
 use Rattle.walk.specs.Sum.{shift_cost}
 use Rattle.layers.specs.Crossing.{crossing_row, claim_in}
 use Rattle.layers.specs.Opening.{row_in, Skips}

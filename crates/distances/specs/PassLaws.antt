@@ -6,9 +6,9 @@ use Rattle.std.proofs.Math.Decide.{ℕ_discrete}
 use Rattle.std.proofs.lemmas.List.{set-get_or}
 use Rattle.book.specs.Tables.{Tables}
 use Rattle.walk.specs.Scale.{Scale, unreached}
-use Rattle.walk.specs.CostLaws.{zero-plus, plus_assoc, plus-far-right}
+use Rattle.walk.proofs.CostLaws.{zero-plus, plus_assoc, plus-far-right}
 use Rattle.walk.specs.Claims.{Claims, none, OnwardTo, Weighs}
-use Rattle.walk.specs.ClaimsLaws.{claimed-next, claimed-append, claimed-shift, claimed-goto, onward}
+use Rattle.walk.proofs.ClaimsLaws.{claimed-next, claimed-append, claimed-shift, claimed-goto, onward}
 use Rattle.walk.specs.Layers.{Sooner, from-shift, from-goto}
 use Rattle.walk.specs.Sum.{plus}
 use Rattle.layers.specs.Layer.{value_in}

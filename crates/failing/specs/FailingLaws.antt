@@ -9,7 +9,7 @@ use Rattle.book.specs.declared.Action.TheVariants.{Error, Accept, Shift, Reduce}
 use Rattle.book.specs.declared.Sizes.{Sizes}
 use Rattle.sets.specs.SetLaws.{both}
 use Rattle.walk.specs.Breaks.{Breaks}
-use Rattle.walk.specs.CostLaws.{exact-reached}
+use Rattle.walk.proofs.CostLaws.{exact-reached}
 use Rattle.walk.specs.Scale.{plain}
 use Rattle.breaks.specs.BreakingLaws.{breaks-reduce}
 use Rattle.layers.specs.CrossingLaws.{terminals-are}

@@ -5,7 +5,7 @@ use Rattle.number.specs.Lent.{over}
 use Rattle.book.specs.Tables.{Tables}
 use Rattle.walk.specs.Answer.{Outcome, Best, WordsOf, Unreached as Never, Long as Far, Sentence as Word}
 use Rattle.walk.specs.Scale.{plain}
-use Rattle.walk.specs.ShortestLaws.{cost-length}
+use Rattle.walk.proofs.ShortestLaws.{cost-length}
 use Rattle.finder.specs.Finder.{Answered, found, sentence_of}
 use Rattle.finder.specs.Fitting.{Fitting}
 use Rattle.finder.specs.declared.Found.{Found}

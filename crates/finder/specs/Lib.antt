@@ -1,6 +1,5 @@
 pub mod Finder
 pub mod FinderLaws
 pub mod PairLaws
-pub mod AlikeLaws
 pub mod Fitting
 pub mod FittingLaws

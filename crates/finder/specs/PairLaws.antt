@@ -12,17 +12,17 @@ use Rattle.book.specs.declared.Sizes.{Sizes}
 use Rattle.machine.specs.Machine.{Reaches}
 use Rattle.machine.specs.MachineLaws.{clash}
 use Rattle.walk.specs.Answer.{Long, WordsOf, AnswerAs, Unreached as Never, Sentence as Word}
-use Rattle.walk.specs.AnswerLaws.{best_none, best-long, answer-rank}
+use Rattle.walk.proofs.AnswerLaws.{best_none, best-long, answer-rank}
 use Rattle.walk.specs.Choice.{Brings, Guides}
-use Rattle.walk.specs.ChoiceLaws.{reaches-brings}
+use Rattle.walk.proofs.ChoiceLaws.{reaches-brings}
 use Rattle.walk.specs.Claims.{Claims, Claimed, Least, Arrival, Onward}
-use Rattle.walk.specs.ClaimsLaws.{claimed-terminal, onward-goal, onward-claimed, weights-least, start-exact}
+use Rattle.walk.proofs.ClaimsLaws.{claimed-terminal, onward-goal, onward-claimed, weights-least, start-exact}
 use Rattle.walk.specs.Cost.{Exact}
 use Rattle.walk.specs.Ends.{end_cost}
 use Rattle.walk.specs.Goal.{Tops, BreaksAt, Aim}
 use Rattle.walk.specs.OrderLaws.{RankAlike}
 use Rattle.walk.specs.Scale.{Scale, plain, long, unreached}
-use Rattle.walk.specs.ShortestLaws.{cost-length}
+use Rattle.walk.proofs.ShortestLaws.{cost-length}
 use Rattle.breaks.specs.AnswerBreakLaws.{no-break}
 use Rattle.breaks.specs.BreakClaims.{ToBreak}
 use Rattle.breaks.specs.BreakClaimsLaws.{break-guides, start-exact-break}

@@ -12,7 +12,7 @@ use Rattle.book.specs.declared.Action.{Action}
 use Rattle.book.specs.declared.Action.TheVariants.{Shift}
 use Rattle.book.specs.declared.Sizes.{Sizes}
 use Rattle.walk.specs.Scale.{Scale, unreached}
-use Rattle.walk.specs.CostLaws.{plus-far-left, plus-far-right, cut-unreached, cut-within, cut-beyond}
+use Rattle.walk.proofs.CostLaws.{plus-far-left, plus-far-right, cut-unreached, cut-within, cut-beyond}
 use Rattle.walk.specs.Claims.{Claims}
 use Rattle.walk.specs.Layers.{Longer, add-shift, add-goto, cut_at}
 use Rattle.walk.specs.Sum.{shift_cost}

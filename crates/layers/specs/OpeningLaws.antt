@@ -11,7 +11,7 @@ use Rattle.book.specs.RangeLaws.{Small}
 use Rattle.machine.specs.MachineLaws.{clash}
 use Rattle.walk.specs.Scale.{Scale}
 use Rattle.walk.specs.Claims.{Claims, Witnessed}
-use Rattle.walk.specs.ClaimsLaws.{unopened-unreached}
+use Rattle.walk.proofs.ClaimsLaws.{unopened-unreached}
 use Rattle.walk.specs.WalkLaws.{Opens, shifts}
 use Rattle.layers.specs.CrossingLaws.{within}
 use Rattle.layers.specs.Opening.{row_in, Unopened, OpenRows, Skips}

@@ -5,9 +5,9 @@ use Rattle.book.specs.Tables.{Tables}
 use Rattle.book.specs.declared.Action.TheVariants.{Reduce}
 use Rattle.walk.specs.Scale.{Scale, unreached}
 use Rattle.walk.specs.Sum.{shift_cost, plus}
-use Rattle.walk.specs.CostLaws.{plus-mono, plus_assoc, plus-far-left, zero-plus, plus-zero}
+use Rattle.walk.proofs.CostLaws.{plus-mono, plus_assoc, plus-far-left, zero-plus, plus-zero}
 use Rattle.walk.specs.Claims.{Claims, Claimed, none, shifting, crossing, Least}
-use Rattle.walk.specs.ClaimsLaws.{claimed-next, claimed-terminal, claimed-bounded, onward}
+use Rattle.walk.proofs.ClaimsLaws.{claimed-next, claimed-terminal, claimed-bounded, onward}
 use Rattle.walk.specs.Layers.{Longer, add-shift, add-goto, by-shift, by-goto}
 use Rattle.breaks.specs.BreakClaims.{ClaimedFar}
 use Rattle.lengths.specs.Starts.{Ahead, ends, goes, Led, LayerFrom, LackingStarts, BottomStarts}

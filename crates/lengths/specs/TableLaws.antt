@@ -15,8 +15,8 @@ use Rattle.walk.specs.Breaks.{Breaks}
 use Rattle.walk.specs.Cost.{Exact}
 use Rattle.walk.specs.Scale.{Scale, unreached}
 use Rattle.walk.specs.Claims.{Claims, Least, LeastWhere, Arrival}
-use Rattle.walk.specs.ClaimsLaws.{claimed-bounded, claimed-state, start-matches}
-use Rattle.walk.specs.MatchesLaws.{matches-least}
+use Rattle.walk.proofs.ClaimsLaws.{claimed-bounded, claimed-state, start-matches}
+use Rattle.walk.proofs.MatchesLaws.{matches-least}
 use Rattle.layers.specs.ActionLaws.{reduce-below}
 use Rattle.layers.specs.Crossing.{claim_in}
 use Rattle.layers.specs.CrossingLaws.{terminal, within, terminals-are, states-are}

@@ -18,7 +18,7 @@ use Rattle.forms.proofs.FormsLaws.{plain-holds, plain-tables}
 use Rattle.forms.specs.OrderLaws.{ByRank}
 use Rattle.layers.specs.CrossingLaws.{terminals-are}
 use Rattle.walk.specs.Answer.{Outcome, Unreached, WordsOf}
-use Rattle.walk.specs.AnswerLaws.{best-one, answer-rank}
+use Rattle.walk.proofs.AnswerLaws.{best-one, answer-rank}
 use Rattle.walk.specs.OrderLaws.{RankAlike}
 use Rattle.walk.specs.Scale.{plain}
 use Rattle.lengths.specs.Lengths.{BreakTable}

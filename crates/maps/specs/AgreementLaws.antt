@@ -10,9 +10,10 @@ use Rattle.sets.specs.SetLaws.{both, set-member, set_same, set-count}
 use Rattle.machine.specs.Machine.{Reaches}
 use Rattle.machine.specs.MachineLaws.{clash}
 use Rattle.walk.specs.Scale.{plain}
-use Rattle.walk.specs.CostLaws.{exact_one}
+use Rattle.walk.proofs.CostLaws.{exact_one}
 use Rattle.walk.specs.Answer.{Outcome, Unreached, Long, Sentence, Answer}
-use Rattle.walk.specs.AnswerLaws.{answer-exact, mapped}
+use Rattle.walk.specs.AnswerLaws.{mapped}
+use Rattle.walk.proofs.AnswerLaws.{answer-exact}
 use Rattle.maps.specs.Maps.{IsSets}
 use Rattle.walk.specs.Map.{IsMap}
 

@@ -11,7 +11,7 @@ use Rattle.book.specs.Tables.{tables_of}
 use Rattle.machine.specs.Machine.{Reaches}
 use Rattle.sets.specs.Set.{set_of}
 use Rattle.sets.specs.Bits.{below}
-use Rattle.walk.specs.CostLaws.{exact-reached}
+use Rattle.walk.proofs.CostLaws.{exact-reached}
 use Rattle.walk.specs.Scale.{plain, unreached}
 use Rattle.layers.specs.Layer.{entry_in}
 use Rattle.distances.specs.Distances.{StartTable}

@@ -13,7 +13,7 @@ use Rattle.book.specs.declared.Sizes.{Sizes}
 use Rattle.walk.specs.Scale.{plain, unreached}
 use Rattle.walk.specs.Claims.{Claims}
 use Rattle.walk.specs.Layers.{Longer}
-use Rattle.walk.specs.LayersLaws.{longer-as}
+use Rattle.walk.proofs.LayersLaws.{longer-as}
 use Rattle.layers.specs.CrossingLaws.{terminal, within, states-are}
 use Rattle.layers.specs.Layer.{value_in, Lengthened}
 use Rattle.layers.specs.LayerLaws.{value_read}

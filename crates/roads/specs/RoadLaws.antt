@@ -11,9 +11,9 @@ use Rattle.book.specs.declared.Sizes.{Sizes}
 use Rattle.machine.specs.MachineLaws.{clash}
 use Rattle.walk.specs.Scale.{plain, long, unreached}
 use Rattle.walk.specs.Claims.{Claims, Claimed, Least}
-use Rattle.walk.specs.ClaimsLaws.{claimed-next}
+use Rattle.walk.proofs.ClaimsLaws.{claimed-next}
 use Rattle.walk.specs.Layers.{Longer, Hereditary, cut_at}
-use Rattle.walk.specs.LayersLaws.{layer-here, layer-elsewhere, layer-where, where-longer, longer-whole}
+use Rattle.walk.proofs.LayersLaws.{layer-here, layer-elsewhere, layer-where, where-longer, longer-whole}
 use Rattle.layers.specs.ActionLaws.{reduce-below}
 use Rattle.layers.specs.Crossing.{crossing_row, claim_in}
 use Rattle.layers.specs.CrossingLaws.{terminals-are, terminal, within, states-are}

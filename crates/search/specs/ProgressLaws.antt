@@ -9,9 +9,9 @@ use native.Mathlib.Omega.{arith}
 use Rattle.std.proofs.Math.ListN.{get_or}
 use Rattle.book.specs.Tables.{Tables}
 use Rattle.walk.specs.Scale.{Scale, unreached}
-use Rattle.walk.specs.CostLaws.{plus-mono}
+use Rattle.walk.proofs.CostLaws.{plus-mono}
 use Rattle.walk.specs.Claims.{Claims, Completes}
-use Rattle.walk.specs.ClaimsLaws.{claimed-next}
+use Rattle.walk.proofs.ClaimsLaws.{claimed-next}
 use Rattle.walk.specs.Sum.{plus}
 use Rattle.layers.specs.Layer.{entry_in}
 use Rattle.layers.specs.Step.{TableStep}

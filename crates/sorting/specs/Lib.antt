@@ -6,6 +6,4 @@ pub mod PutLaws
 pub mod PutEntryLaws
 pub mod UpTo
 pub mod UpToLaws
-pub mod PutStatesLaws
-pub mod SortLaws
 pub mod SortingLaws

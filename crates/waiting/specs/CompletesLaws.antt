@@ -8,13 +8,13 @@ use Rattle.book.specs.declared.Action.TheVariants.{Reduce}
 use Rattle.machine.specs.Machine.{Steps, done, then}
 use Rattle.machine.specs.MachineLaws.{step-reduce, ◌⊕◌}
 use Rattle.walk.specs.Walk.{Walk}
-use Rattle.walk.specs.WalkLaws.{walk-starts, walk-runs}
+use Rattle.walk.proofs.WalkLaws.{walk-starts, walk-runs}
 use Rattle.walk.specs.Scale.{Scale, unreached, cap}
 use Rattle.walk.specs.Cost.{cost, Attained}
 use Rattle.walk.specs.Sum.{plus}
-use Rattle.walk.specs.CostLaws.{plus-mono, plus_assoc, plus-bounded, plus-near, plus-far-left, plus-far-right, plus-zero, zero-plus, attained-plus}
+use Rattle.walk.proofs.CostLaws.{plus-mono, plus_assoc, plus-bounded, plus-near, plus-far-left, plus-far-right, plus-zero, zero-plus, attained-plus}
 use Rattle.walk.specs.Claims.{Claims, Claimed, ClaimedDescends, arriving, popping, Completes, Witnessed}
-use Rattle.walk.specs.ClaimsLaws.{claimed-bounded, witnessed-above}
+use Rattle.walk.proofs.ClaimsLaws.{claimed-bounded, witnessed-above}
 use Rattle.waiting.specs.Completes.{Stands, top, falls, Standing, Event, Comes}
 
 -- no part of a sum below unreached is unreached

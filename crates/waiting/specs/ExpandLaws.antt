@@ -10,11 +10,12 @@ use Rattle.book.specs.declared.Action.TheVariants.{Error, Accept, Shift, Reduce}
 use Rattle.book.specs.declared.Sizes.{Sizes}
 use Rattle.machine.specs.MachineLaws.{clash}
 use Rattle.walk.specs.Scale.{Scale, long, unreached}
-use Rattle.walk.specs.CostLaws.{plus-mono, plus-left-le, plus-zero, plus-far-left, plus-far-right, plus-right-within, cut-within, cut-beyond}
+use Rattle.walk.proofs.CostLaws.{plus-mono, plus-left-le, plus-zero, plus-far-left, plus-far-right, plus-right-within, cut-within, cut-beyond}
 use Rattle.walk.specs.Claims.{Claims, Claimed, none, shifting, crossing, Least, LeastWhere}
-use Rattle.walk.specs.ClaimsLaws.{claimed-next, claimed-bounded, claimed-terminal, Start, nowhere, shift-first, goto-first, claimed-start}
+use Rattle.walk.specs.ClaimsLaws.{Start, nowhere, shift-first, goto-first}
+use Rattle.walk.proofs.ClaimsLaws.{claimed-next, claimed-bounded, claimed-terminal, claimed-start}
 use Rattle.walk.specs.Layers.{Layer, LayerWhere, Hereditary, cut_at, by-shift, by-goto}
-use Rattle.walk.specs.LayersLaws.{layer-here, layer-elsewhere, where-longer}
+use Rattle.walk.proofs.LayersLaws.{layer-here, layer-elsewhere, where-longer}
 use Rattle.walk.specs.Sum.{shift_cost, plus, cut}
 use Rattle.layers.specs.Layer.{value_in, Begun, LengthenedTo}
 use Rattle.layers.specs.LayerLaws.{value-off}

@@ -1,5 +1,5 @@
 -- `agreement_test::books` is safe and ends. Assumes nothing.
-use Rattle.std.proofs.Common.{◌≡◌, ◌-◌, length, arith, rules}
+use Rattle.std.proofs.Common.{◌-◌, arith}
 use Rattle.agreement_test.proofs.books.Goals as goal
 
 pub slice_bounds-compared-count : goal.slice_bounds-compared-count

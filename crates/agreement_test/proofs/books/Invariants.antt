@@ -1,4 +1,4 @@
-use Rattle.std.proofs.Common.{◌≡◌, ◌-◌, length, arith, rules}
+use Rattle.std.proofs.Common.{◌≡◌, ◌-◌, length}
 use Rattle.agreement_test.proofs.books.Given as goal
 
 abbrev pub invariant-loop-at : goal.invariant-loop-at

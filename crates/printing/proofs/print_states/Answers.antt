@@ -1,5 +1,5 @@
 -- `printing::print_states` meets its contract. Assumes nothing.
-use Prim.Native.Nat.{◌-◌, ◌≤◌}
+use Prim.Native.Nat.{◌-◌}
 use Rattle.printing.proofs.print_states.Goals as goal
 
 pub print_state-requires : goal.print_state-requires

@@ -1,9 +1,8 @@
 -- `sets::members` meets its contract: one terminal after the other. Assumes nothing.
 use native.Mathlib.Omega.{arith}
 use native.Mathlib.Nat.{le_antisymm}
-use mathlib.Core.Path.{◌≡◌, refl, ◌∙◌}
-use Prim.Native.Nat.{◌-◌, ◌≤◌}
-use lib.ListN.{length}
+use mathlib.Core.Path.{refl, ◌∙◌}
+use Prim.Native.Nat.{◌-◌}
 use Rattle.sets.specs.Set.{set_of}
 use Rattle.sets.specs.Bits.{below}
 use Rattle.sets.specs.SetLaws.{set_more}

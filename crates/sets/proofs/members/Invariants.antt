@@ -1,11 +1,8 @@
-use native.Mathlib.Omega.{arith}
-use native.Mathlib.Nat.{le_antisymm}
-use mathlib.Core.Path.{◌≡◌, refl, ◌∙◌}
+use mathlib.Core.Path.{◌≡◌}
 use Prim.Native.Nat.{◌-◌, ◌≤◌}
 use lib.ListN.{length}
 use Rattle.sets.specs.Set.{set_of}
 use Rattle.sets.specs.Bits.{below}
-use Rattle.sets.specs.SetLaws.{set_more}
 use Rattle.sets.proofs.members.Given as goal
 
 abbrev pub invariant-loop-z : goal.invariant-loop-z

@@ -1,7 +1,7 @@
 -- `walk::add` meets its contract. Assumes nothing.
 use mathlib.Core.Path.{sym, ◌∙◌}
 use Rattle.walk.specs.Scale.{plain}
-use Rattle.walk.specs.CostLaws.{plus-far-left, plus-far-right, plus-near}
+use Rattle.walk.proofs.CostLaws.{plus-far-left, plus-far-right, plus-near}
 use Rattle.walk.proofs.add.Goals as goal
 
 pub returns-then-x-ge-UNREACHED : goal.returns-then-x-ge-UNREACHED

@@ -1,10 +1,9 @@
 -- `walk::fill` meets its contract. Assumes nothing.
 use native.Mathlib.Nat.{le_antisymm}
 use native.Mathlib.Omega.{arith}
-use mathlib.Core.Path.{◌≡◌, refl}
-use Prim.Native.Nat.{◌-◌, ◌≤◌}
-use lib.ListN.{length, length-set}
-use Rattle.walk.specs.Fill.{filled}
+use mathlib.Core.Path.{refl}
+use Prim.Native.Nat.{◌-◌}
+use lib.ListN.{length-set}
 use Rattle.walk.specs.FillLaws.{filled_none, filled_more}
 use Rattle.walk.proofs.fill.Goals as goal
 

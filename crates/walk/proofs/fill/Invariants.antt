@@ -1,10 +1,7 @@
-use native.Mathlib.Nat.{le_antisymm}
-use native.Mathlib.Omega.{arith}
-use mathlib.Core.Path.{◌≡◌, refl}
+use mathlib.Core.Path.{◌≡◌}
 use Prim.Native.Nat.{◌-◌, ◌≤◌}
-use lib.ListN.{length, length-set}
+use lib.ListN.{length}
 use Rattle.walk.specs.Fill.{filled}
-use Rattle.walk.specs.FillLaws.{filled_none, filled_more}
 use Rattle.walk.proofs.fill.Given as goal
 
 abbrev pub invariant-loop-i : goal.invariant-loop-i

@@ -32,11 +32,11 @@ unfolding claim_in
 returns c =
     record {
       leads_to = λ e. record {
-    target = c.goto_at-target.result - 1;
-    transition = omega (arith, c.goto_at-target.ensures, c.if-target-eq0.false);
-    claimed = ap (λ (i : ℕ). get_or c.args.table.now (i + c.args.a) 0) (sym c.crossing_row-row.ensures) ∙ c.if-table-row-ne0.false;
-    distance = eqb-true _ _ e;
-  };
+        target = c.goto_at-target.result - 1;
+        transition = omega (arith, c.goto_at-target.ensures, c.if-target-eq0.false);
+        claimed = ap (λ (i : ℕ). get_or c.args.table.now (i + c.args.a) 0) (sym c.crossing_row-row.ensures) ∙ c.if-table-row-ne0.false;
+        distance = eqb-true _ _ e;
+      };
       not_leads_to = λ e a. eqb-false _ _ e (let same : c.goto_at-target.result - 1 ≡ a.target = omega (arith, a.transition, c.goto_at-target.ensures) in ap (λ (i : ℕ). get_or c.args.to.now i 0) same ∙ a.distance);
     }
 

@@ -1,7 +1,5 @@
 use Rattle.advance.specs.Round.{Rounds}
-use Rattle.advance.specs.RoundLaws.{rounds-none, rounds-more}
 use Prim.Native.Nat.{◌-◌, ◌≤◌}
-use native.Mathlib.Omega.{arith}
 use Rattle.book.specs.Tables.{tables_of}
 use Rattle.layers.specs.Crossing.{claim_in}
 use Rattle.advance.proofs.distance.nearest.Given as goal

@@ -1,10 +1,7 @@
 -- `advance::distance::round` meets its contract. Assumes nothing.
-use Prim.Native.Nat.{◌-◌, ◌≤◌}
+use Prim.Native.Nat.{◌-◌}
 use native.Mathlib.Nat.{le_antisymm}
 use native.Mathlib.Omega.{arith}
-use Rattle.book.specs.Tables.{tables_of}
-use Rattle.layers.specs.Crossing.{claim_in}
-use Rattle.advance.specs.Round.{Round}
 use Rattle.advance.specs.RoundLaws.{round-more}
 use Rattle.advance.proofs.distance.round.Goals as goal
 

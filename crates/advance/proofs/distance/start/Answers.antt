@@ -1,9 +1,7 @@
 -- `advance::distance::start` meets its contract. Assumes nothing.
-use Prim.Native.Nat.{◌-◌, ◌≤◌}
+use Prim.Native.Nat.{◌-◌}
 use native.Mathlib.Nat.{le_antisymm}
 use native.Mathlib.Omega.{arith}
-use Rattle.book.specs.Tables.{tables_of}
-use Rattle.advance.specs.Round.{Started}
 use Rattle.advance.specs.RoundLaws.{started_none, started-more}
 use Rattle.advance.proofs.distance.start.Goals as goal
 

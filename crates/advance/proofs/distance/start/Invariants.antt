@@ -1,9 +1,6 @@
 use Prim.Native.Nat.{◌-◌, ◌≤◌}
-use native.Mathlib.Nat.{le_antisymm}
-use native.Mathlib.Omega.{arith}
 use Rattle.book.specs.Tables.{tables_of}
 use Rattle.advance.specs.Round.{Started}
-use Rattle.advance.specs.RoundLaws.{started_none, started-more}
 use Rattle.advance.proofs.distance.start.Given as goal
 
 abbrev pub invariant-loop-q : goal.invariant-loop-q

@@ -1,10 +1,7 @@
 -- `advance::distance::toward` meets its contract. Assumes nothing.
-use Prim.Native.Nat.{ℕ, ◌-◌, ◌≤◌, ◌<◌}
+use Prim.Native.Nat.{◌-◌}
 use native.Mathlib.Omega.{arith}
 use borrow.Author.Count.{below_none, below_more}
-use Rattle.book.specs.Tables.{tables_of}
-use Rattle.layers.specs.Crossing.{claim_in}
-use Rattle.advance.specs.Nearest.{LeadsTo}
 use Rattle.advance.proofs.distance.toward.Goals as goal
 
 pub loop-x-init : goal.loop-x-init

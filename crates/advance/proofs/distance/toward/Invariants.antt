@@ -1,6 +1,4 @@
 use Prim.Native.Nat.{ℕ, ◌-◌, ◌≤◌, ◌<◌}
-use native.Mathlib.Omega.{arith}
-use borrow.Author.Count.{below_none, below_more}
 use Rattle.book.specs.Tables.{tables_of}
 use Rattle.layers.specs.Crossing.{claim_in}
 use Rattle.advance.specs.Nearest.{LeadsTo}

@@ -1,13 +1,6 @@
-use mathlib.Core.Path.{refl}
-use Prim.Native.Nat.{◌<◌}
-use native.Mathlib.Omega.{arith}
-use lib.ListN.{length, get_or, length-set}
+use lib.ListN.{get_or}
 use Rattle.book.specs.Tables.{tables_of}
-use Rattle.book.proofs.TablesLaws.{in-range}
-use Rattle.layers.specs.CrossingLaws.{terminals-are, states-are}
-use Rattle.advance.specs.NearestLaws.{near-low}
 use Rattle.advance.specs.Push.{StatesPushed}
-use Rattle.advance.specs.PushLaws.{pushed_none, pushed_more, pushed-done}
 use Rattle.advance.proofs.push.push_to_shift.Given as goal
 
 abbrev pub invariant-loop-g : goal.invariant-loop-g

@@ -1,4 +1,4 @@
-use Rattle.std.proofs.Common.{◌-◌, rules}
+use Rattle.std.proofs.Common.{◌-◌}
 use Rattle.agreement_test.proofs.breaking.nearest.Given as goal
 
 abbrev pub invariant-loop-y : goal.invariant-loop-y

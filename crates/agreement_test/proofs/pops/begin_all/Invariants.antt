@@ -1,4 +1,4 @@
-use Rattle.std.proofs.Common.{◌-◌, rules}
+use Rattle.std.proofs.Common.{◌-◌}
 use Rattle.agreement_test.proofs.pops.begin_all.Given as goal
 
 abbrev pub invariant-loop-x : goal.invariant-loop-x

@@ -1,4 +1,4 @@
-use Rattle.std.proofs.Common.{◌-◌, rules}
+use Rattle.std.proofs.Common.{◌-◌}
 use Rattle.agreement_test.proofs.sentences.give_up.Given as goal
 
 abbrev pub invariant-loop-q : goal.invariant-loop-q

@@ -1,4 +1,4 @@
-use Rattle.std.proofs.Common.{◌-◌, rules}
+use Rattle.std.proofs.Common.{◌-◌}
 use Rattle.agreement_test.proofs.sentences.try_each.Given as goal
 
 abbrev pub invariant-loop-z : goal.invariant-loop-z

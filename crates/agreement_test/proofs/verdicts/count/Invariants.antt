@@ -1,4 +1,4 @@
-use Rattle.std.proofs.Common.{◌-◌, ◌≤◌, ⊎_elim, arith, rules}
+use Rattle.std.proofs.Common.{◌-◌, ◌≤◌}
 use Rattle.agreement_test.proofs.verdicts.count.Given as goal
 
 abbrev pub invariant-loop-k : goal.invariant-loop-k

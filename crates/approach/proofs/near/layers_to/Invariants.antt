@@ -1,11 +1,8 @@
-use native.Mathlib.Nat.{le_antisymm}
-use native.Mathlib.Omega.{arith}
 use Prim.Native.Nat.{◌-◌, ◌≤◌}
 use Rattle.book.specs.Tables.{tables_of}
 use Rattle.walk.specs.Scale.{plain}
 use Rattle.layers.specs.Crossing.{claim_in}
 use Rattle.approach.specs.Approach.{LayersTo}
-use Rattle.approach.specs.NearLaws.{layers-none, layers-more}
 use Rattle.approach.proofs.near.layers_to.Given as goal
 
 abbrev pub invariant-loop-m : goal.invariant-loop-m

@@ -1,9 +1,8 @@
 -- `approach::shortest::over_start` meets its contract. Assumes nothing.
 use native.Mathlib.Nat.{le_antisymm}
 use native.Mathlib.Omega.{arith}
-use mathlib.Core.Path.{◌≡◌, ◌∙◌}
-use Prim.Native.Nat.{◌-◌, ◌≤◌}
-use Rattle.approach.specs.Shortest.{least_over}
+use mathlib.Core.Path.{◌∙◌}
+use Prim.Native.Nat.{◌-◌}
 use Rattle.approach.specs.ShortestLaws.{over_none, over-more}
 use Rattle.approach.proofs.shortest.over_start.Goals as goal
 

@@ -1,9 +1,6 @@
-use native.Mathlib.Nat.{le_antisymm}
-use native.Mathlib.Omega.{arith}
-use mathlib.Core.Path.{◌≡◌, ◌∙◌}
+use mathlib.Core.Path.{◌≡◌}
 use Prim.Native.Nat.{◌-◌, ◌≤◌}
 use Rattle.approach.specs.Shortest.{least_over}
-use Rattle.approach.specs.ShortestLaws.{over_none, over-more}
 use Rattle.approach.proofs.shortest.over_start.Given as goal
 
 abbrev pub invariant-loop-m : goal.invariant-loop-m

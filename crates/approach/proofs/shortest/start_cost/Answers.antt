@@ -1,8 +1,7 @@
 -- `approach::shortest::start_cost` meets its contract. Assumes nothing.
 use native.Mathlib.Nat.{le_antisymm}
 use native.Mathlib.Omega.{arith}
-use Prim.Native.Nat.{◌-◌, ◌≤◌}
-use Rattle.approach.specs.Shortest.{least_over, Lowest}
+use Prim.Native.Nat.{◌-◌}
 use Rattle.approach.specs.ShortestLaws.{lowest-one, lowest-more}
 use Rattle.approach.proofs.shortest.start_cost.Goals as goal
 

@@ -1,8 +1,5 @@
-use native.Mathlib.Nat.{le_antisymm}
-use native.Mathlib.Omega.{arith}
 use Prim.Native.Nat.{◌-◌, ◌≤◌}
 use Rattle.approach.specs.Shortest.{least_over, Lowest}
-use Rattle.approach.specs.ShortestLaws.{lowest-one, lowest-more}
 use Rattle.approach.proofs.shortest.start_cost.Given as goal
 
 abbrev pub invariant-loop-a : goal.invariant-loop-a

@@ -1,11 +1,8 @@
 -- `approach::sooner::sooner` meets its contract. Assumes nothing.
 use native.Mathlib.Omega.{arith}
-use Prim.Native.Nat.{ℕ, ◌-◌, ◌≤◌}
+use Prim.Native.Nat.{ℕ, ◌-◌}
 use lib.ListN.{length-replicate}
-use Rattle.book.specs.Tables.{tables_of}
-use Rattle.walk.specs.Scale.{plain}
-use Rattle.layers.specs.Crossing.{claim_in}
-use Rattle.approach.specs.SoonerLaws.{SoonerCells, cells-none, cells-more, sooner-layer, sooner-bounded}
+use Rattle.approach.specs.SoonerLaws.{cells-none, cells-more, sooner-layer, sooner-bounded}
 use Rattle.approach.proofs.sooner.sooner.Goals as goal
 
 pub mark-requires : goal.mark-requires

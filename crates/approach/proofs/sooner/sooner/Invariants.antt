@@ -1,10 +1,8 @@
-use native.Mathlib.Omega.{arith}
-use Prim.Native.Nat.{ℕ, ◌-◌, ◌≤◌}
-use lib.ListN.{length-replicate}
+use Prim.Native.Nat.{◌-◌, ◌≤◌}
 use Rattle.book.specs.Tables.{tables_of}
 use Rattle.walk.specs.Scale.{plain}
 use Rattle.layers.specs.Crossing.{claim_in}
-use Rattle.approach.specs.SoonerLaws.{SoonerCells, cells-none, cells-more, sooner-layer, sooner-bounded}
+use Rattle.approach.specs.SoonerLaws.{SoonerCells}
 use Rattle.approach.proofs.sooner.sooner.Given as goal
 
 abbrev pub invariant-loop-k : goal.invariant-loop-k

@@ -1,11 +1,8 @@
-use native.Mathlib.Nat.{le_antisymm}
-use native.Mathlib.Omega.{arith}
-use mathlib.Core.Path.{◌≡◌, ◌∙◌}
+use mathlib.Core.Path.{◌≡◌}
 use Prim.Native.Nat.{◌-◌, ◌≤◌}
 use Rattle.book.specs.Tables.{tables_of}
 use Rattle.walk.specs.Scale.{plain}
 use Rattle.approach.specs.Approach.{without_rows}
-use Rattle.approach.specs.WeightsLaws.{rows_none, rows_more, rows-size}
 use Rattle.approach.proofs.weights.without_gotos.Given as goal
 
 abbrev pub invariant-loop-q : goal.invariant-loop-q

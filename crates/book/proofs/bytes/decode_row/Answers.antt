@@ -1,10 +1,9 @@
 -- `book::bytes::decode_row` meets its contract: the numbers are stored one by one. Assumes nothing.
 use native.Mathlib.Omega.{arith}
-use Prim.Native.Nat.{◌-◌, ◌≤◌}
-use mathlib.Core.Path.{◌≡◌, sym, ◌∙◌}
-use lib.ListN.{length, length-set}
-use Rattle.number.specs.Number.{number_at}
-use Rattle.book.specs.BytesLaws.{Decoded, decoded-none, decoded-next, decoded-more, decoded-stop, decoded-done}
+use Prim.Native.Nat.{◌-◌}
+use mathlib.Core.Path.{sym, ◌∙◌}
+use lib.ListN.{length-set}
+use Rattle.book.specs.BytesLaws.{decoded-none, decoded-next, decoded-more, decoded-stop, decoded-done}
 use borrow.Author.Rules.{rules}
 use Rattle.book.proofs.bytes.decode_row.Goals as goal
 

@@ -1,9 +1,8 @@
-use native.Mathlib.Omega.{arith}
 use Prim.Native.Nat.{◌-◌, ◌≤◌}
-use mathlib.Core.Path.{◌≡◌, sym, ◌∙◌}
-use lib.ListN.{length, length-set}
+use mathlib.Core.Path.{◌≡◌}
+use lib.ListN.{length}
 use Rattle.number.specs.Number.{number_at}
-use Rattle.book.specs.BytesLaws.{Decoded, decoded-none, decoded-next, decoded-more, decoded-stop, decoded-done}
+use Rattle.book.specs.BytesLaws.{Decoded}
 use Rattle.book.proofs.bytes.decode_row.Given as goal
 
 abbrev pub invariant-loop-i : goal.invariant-loop-i

@@ -1,8 +1,8 @@
 -- `book::cells::byte_count` meets its contract. Assumes nothing.
 use native.Mathlib.Omega.{arith}
-use Prim.Native.Nat.{◌-◌, ◌≤◌, ℕ}
-use mathlib.Core.Path.{◌≡◌, refl, ◌∙◌, ap}
-use lib.ListN.{length, take}
+use Prim.Native.Nat.{◌-◌, ℕ}
+use mathlib.Core.Path.{refl, ◌∙◌, ap}
+use lib.ListN.{length}
 use mathlib.Core.List.{List}
 use lib.Seq.{take_all}
 use Rattle.book.specs.Book.{bytes_of}

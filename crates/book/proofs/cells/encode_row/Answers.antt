@@ -1,9 +1,8 @@
 -- `book::cells::encode_row` meets its contract: the cells are written one by one. Assumes nothing.
 use native.Mathlib.Omega.{arith}
-use Prim.Native.Nat.{◌-◌, ◌≤◌}
-use mathlib.Core.Path.{◌≡◌, ◌∙◌}
-use lib.ListN.{length}
-use Rattle.book.specs.BytesLaws.{Encoded, encoded-none, encoded-fits, encoded-more, encoded-done}
+use Prim.Native.Nat.{◌-◌}
+use mathlib.Core.Path.{◌∙◌}
+use Rattle.book.specs.BytesLaws.{encoded-none, encoded-fits, encoded-more, encoded-done}
 use borrow.Author.Rules.{rules}
 use Rattle.book.proofs.cells.encode_row.Goals as goal
 

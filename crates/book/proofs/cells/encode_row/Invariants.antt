@@ -1,8 +1,7 @@
-use native.Mathlib.Omega.{arith}
 use Prim.Native.Nat.{◌-◌, ◌≤◌}
-use mathlib.Core.Path.{◌≡◌, ◌∙◌}
+use mathlib.Core.Path.{◌≡◌}
 use lib.ListN.{length}
-use Rattle.book.specs.BytesLaws.{Encoded, encoded-none, encoded-fits, encoded-more, encoded-done}
+use Rattle.book.specs.BytesLaws.{Encoded}
 use Rattle.book.proofs.cells.encode_row.Given as goal
 
 abbrev pub invariant-loop-i : goal.invariant-loop-i

@@ -1,5 +1,4 @@
 -- `book::parts::cell_at` meets its contract. Assumes nothing.
-use native.Mathlib.Omega.{arith}
 use borrow.Author.Tests.{lt-ltb, le-ltb}
 use Rattle.book.specs.Book.{cell_at}
 use Rattle.book.proofs.parts.cell_at.Goals as goal

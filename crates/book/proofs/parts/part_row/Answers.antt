@@ -1,11 +1,10 @@
 -- `book::parts::part_row` meets its contract: the row is followed number by number. Assumes nothing.
 use mathlib.Core.Path.{sym, ◌∙◌}
 use native.Mathlib.Omega.{arith}
-use Prim.Native.Nat.{◌-◌, ◌≤◌}
+use Prim.Native.Nat.{◌-◌}
 use Rattle.book.specs.PartsLaws.{numbers}
-use Rattle.book.specs.Range.{fault}
-use Rattle.book.proofs.SeenLaws.{Marks, marks-none, marks-more, marks-admitted}
-use Rattle.book.specs.RowLaws.{Turns, turns-none, turns_more, turns-stop, turns-done}
+use Rattle.book.proofs.SeenLaws.{marks-none, marks-more, marks-admitted}
+use Rattle.book.specs.RowLaws.{turns-none, turns_more, turns-stop, turns-done}
 use Rattle.book.proofs.parts.part_row.Goals as goal
 
 pub returns-in_default : goal.returns-in_default

@@ -1,10 +1,8 @@
-use mathlib.Core.Path.{sym, ◌∙◌}
-use native.Mathlib.Omega.{arith}
 use Prim.Native.Nat.{◌-◌, ◌≤◌}
 use Rattle.book.specs.PartsLaws.{numbers}
 use Rattle.book.specs.Range.{fault}
-use Rattle.book.proofs.SeenLaws.{Marks, marks-none, marks-more, marks-admitted}
-use Rattle.book.specs.RowLaws.{Turns, turns-none, turns_more, turns-stop, turns-done}
+use Rattle.book.proofs.SeenLaws.{Marks}
+use Rattle.book.specs.RowLaws.{Turns}
 use Rattle.book.proofs.parts.part_row.Given as goal
 
 abbrev pub invariant-loop-i : goal.invariant-loop-i

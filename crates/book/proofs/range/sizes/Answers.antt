@@ -1,5 +1,4 @@
 -- `book::range::sizes` meets its contract. Assumes nothing.
-use native.Mathlib.Omega.{arith}
 use Rattle.book.specs.Tables.{sizes_of}
 use borrow.Author.Rules.{rules}
 use Rattle.book.proofs.range.sizes.Goals as goal

@@ -1,8 +1,5 @@
 -- `book::tables::action_at` meets its contract. Assumes nothing.
-use native.Mathlib.Omega.{arith}
 use mathlib.Core.Path.{sym, ◌∙◌}
-use Prim.Native.Nat.{◌+◌, ◌*◌, ◌<◌}
-use Rattle.book.specs.IndexLaws.{index_below}
 use Rattle.book.proofs.TablesLaws.{act-inside}
 use Rattle.book.proofs.tables.action_at.Goals as goal
 

@@ -1,7 +1,6 @@
 -- `book::tables::goto_at` meets its contract. Assumes nothing.
 use native.Mathlib.Omega.{arith}
 use mathlib.Core.Path.{sym}
-use Prim.Native.Nat.{◌+◌, ◌*◌, ◌≤◌, ◌<◌}
 use Rattle.book.specs.IndexLaws.{index_below}
 use Rattle.book.specs.RangeLaws.{actions-few}
 use Rattle.book.proofs.TablesLaws.{goto-inside}

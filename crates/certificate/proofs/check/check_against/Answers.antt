@@ -1,7 +1,7 @@
 -- `certificate::check::check_against` meets its contract. Assumes nothing.
 use mathlib.Core.Path.{sym, ◌∙◌}
 use Rattle.book.proofs.TablesLaws.{accepted-book}
-use Rattle.certificate.specs.CheckingLaws.{rows_fit, rows-refused}
+use Rattle.certificate.proofs.CheckingLaws.{rows_fit, rows-refused}
 use Rattle.certificate.proofs.check.check_against.Goals as goal
 
 pub admit_rows-requires : goal.admit_rows-requires

@@ -2,7 +2,7 @@
 use mathlib.Core.Path.{sym}
 use native.Mathlib.Omega.{arith}
 use lib.Seq.{length-take-le}
-use Rattle.certificate.specs.CheckingLaws.{lent-plain, claims-checked}
+use Rattle.certificate.proofs.CheckingLaws.{lent-plain, claims-checked}
 use Rattle.certificate.proofs.check.check_book.Goals as goal
 
 pub slice_bounds-check_claims-end : goal.slice_bounds-check_claims-end

@@ -1,6 +1,6 @@
 -- `certificate::check::check_certificate` meets its contract: the book first. Assumes nothing.
 use mathlib.Core.Path.{sym, ◌∙◌}
-use Rattle.certificate.specs.CheckingLaws.{book-refused}
+use Rattle.certificate.proofs.CheckingLaws.{book-refused}
 use Rattle.certificate.proofs.check.check_certificate.Goals as goal
 
 pub check_against-requires : goal.check_against-requires

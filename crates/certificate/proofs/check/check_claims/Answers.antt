@@ -3,7 +3,7 @@ use mathlib.Core.Path.{refl, sym}
 use native.Mathlib.Nat.{zero-add}
 use native.Mathlib.Omega.{arith}
 use Rattle.certificate.specs.Faults.{HoldTo}
-use Rattle.certificate.specs.FaultLaws.{index-fits, searched-fault, searched-none, range-searched, roads-searched, range-marked}
+use Rattle.certificate.proofs.FaultLaws.{index-fits, searched-fault, searched-none, range-searched, roads-searched, range-marked}
 use Rattle.certificate.specs.declared.Condition.TheVariants.{Range, Roads}
 use Rattle.certificate.proofs.check.check_claims.Goals as goal
 

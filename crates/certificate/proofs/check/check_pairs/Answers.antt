@@ -2,7 +2,7 @@
 use mathlib.Core.Path.{refl}
 use native.Mathlib.Omega.{arith}
 use Rattle.certificate.specs.Faults.{HoldTo}
-use Rattle.certificate.specs.FaultLaws.{index-fits, searched-fault, searched-none, start-searched, transitions-searched, short-searched, sentences-searched, range-pairs}
+use Rattle.certificate.proofs.FaultLaws.{index-fits, searched-fault, searched-none, start-searched, transitions-searched, short-searched, sentences-searched, range-pairs}
 use Rattle.certificate.specs.SearchLaws.{judged-accepted}
 use Rattle.certificate.specs.declared.Condition.TheVariants.{Start, Transitions, Short, Sentences}
 use Rattle.certificate.proofs.check.check_pairs.Goals as goal

@@ -1,7 +1,7 @@
 -- `certificate::check::check_rows` meets its contract. Assumes nothing.
 use mathlib.Core.Path.{sym, ◌∙◌}
-use Rattle.certificate.specs.CheckingLaws.{sentences-refused}
-use Rattle.certificate.specs.WrongLaws.{ended-admitted}
+use Rattle.certificate.proofs.CheckingLaws.{sentences-refused}
+use Rattle.certificate.proofs.WrongLaws.{ended-admitted}
 use Rattle.certificate.proofs.check.check_rows.Goals as goal
 
 pub check_book-requires : goal.check_book-requires

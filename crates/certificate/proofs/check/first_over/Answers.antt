@@ -1,6 +1,6 @@
 -- `certificate::check::first_over` meets its contract. Assumes nothing.
 use native.Mathlib.Omega.{arith}
-use Rattle.certificate.specs.FaultLaws.{row-most, rows-first, rows-second}
+use Rattle.certificate.proofs.FaultLaws.{row-most, rows-first, rows-second}
 use Rattle.certificate.proofs.check.first_over.Goals as goal
 
 pub returns-then-i-crossings : goal.returns-then-i-crossings

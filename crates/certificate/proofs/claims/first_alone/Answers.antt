@@ -3,9 +3,7 @@ use mathlib.Core.Bool.{false≢true}
 use mathlib.Core.Logic.{inl, inr}
 use mathlib.Core.Path.{sym, ◌∙◌}
 use native.Mathlib.Omega.{arith}
-use Prim.Native.Nat.{ℕ, ◌-◌, ◌≤◌}
-use lib.ListN.{length}
-use Rattle.certificate.specs.Faults.{InRow}
+use Prim.Native.Nat.{◌-◌}
 use Rattle.roads.specs.LowestLaws.{lowest-more}
 use Rattle.certificate.proofs.claims.first_alone.Goals as goal
 

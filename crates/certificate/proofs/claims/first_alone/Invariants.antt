@@ -1,11 +1,6 @@
-use mathlib.Core.Bool.{false≢true}
-use mathlib.Core.Logic.{inl, inr}
-use mathlib.Core.Path.{sym, ◌∙◌}
-use native.Mathlib.Omega.{arith}
 use Prim.Native.Nat.{ℕ, ◌-◌, ◌≤◌}
 use lib.ListN.{length}
 use Rattle.certificate.specs.Faults.{InRow}
-use Rattle.roads.specs.LowestLaws.{lowest-more}
 use Rattle.certificate.proofs.claims.first_alone.Given as goal
 
 abbrev pub invariant-loop-k : goal.invariant-loop-k

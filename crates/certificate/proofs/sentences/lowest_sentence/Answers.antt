@@ -1,13 +1,9 @@
 -- `certificate::sentences::lowest_sentence` meets its contract: no pair before the one at hand has a wrong sentence. Assumes nothing.
-use mathlib.Core.Logic.{⊎_elim}
-use mathlib.Core.Path.{◌≡◌, sym, ◌∙◌}
-use Prim.Native.Nat.{◌-◌, ◌≤◌}
+use mathlib.Core.Path.{sym, ◌∙◌}
+use Prim.Native.Nat.{◌-◌}
 use native.Mathlib.Nat.{add-sub_cancel_left}
 use native.Mathlib.Omega.{arith}
-use lib.ListN.{length}
-use borrow.Author.Tests.{not-true, not-false}
-use Rattle.book.specs.Tables.{tables_of}
-use Rattle.certificate.specs.WrongLaws.{Standing, standing-none, standing-done, standing-long, standing-refused, stood, standing-right, standing-wrong, symbols-sound}
+use Rattle.certificate.proofs.WrongLaws.{standing-none, standing-done, standing-long, standing-refused, stood, standing-right, standing-wrong, symbols-sound}
 use borrow.Author.Rules.{rules}
 use Rattle.certificate.proofs.sentences.lowest_sentence.Goals as goal
 use Rattle.certificate.proofs.sentences.lowest_sentence.Goals.{then-claim-le-LIMIT+in-Value+else-not-is_right, else-claim-le-LIMIT}
@@ -43,8 +39,8 @@ returns-then-not-is_right c =
 pub loop-k-preserved : goal.loop-k-preserved
 loop-k-preserved c =
     elim c.if-claim-le-LIMIT.branch [
-      then-claim-le-LIMIT+in-Value+else-not-is_right w ↦ (rw w.stack-is (w.is_right.ensures.stack_len_unchanged ∙ c.loop-k.invariant.0), search rules, rw w.at-is (standing-right c.loop-k.invariant.2 c.loop-k-test.true c.requires.holds.small.terminals w.if-claim-le-LIMIT.true (sym w.read.ensures ∙ w.in-Value.is) (rw add-sub_cancel_left at (sym w.is_right.ensures.value ∙ w.if-not-is_right.false))))
-    | else-claim-le-LIMIT w ↦ (rw w.stack-is c.loop-k.invariant.0, search rules, rw w.at-is (standing-long c.loop-k.invariant.2 c.loop-k-test.true w.if-claim-le-LIMIT.false))
+      | then-claim-le-LIMIT+in-Value+else-not-is_right w ↦ (rw w.stack-is (w.is_right.ensures.stack_len_unchanged ∙ c.loop-k.invariant.0), search rules, rw w.at-is (standing-right c.loop-k.invariant.2 c.loop-k-test.true c.requires.holds.small.terminals w.if-claim-le-LIMIT.true (sym w.read.ensures ∙ w.in-Value.is) (rw add-sub_cancel_left at (sym w.is_right.ensures.value ∙ w.if-not-is_right.false))))
+      | else-claim-le-LIMIT w ↦ (rw w.stack-is c.loop-k.invariant.0, search rules, rw w.at-is (standing-long c.loop-k.invariant.2 c.loop-k-test.true w.if-claim-le-LIMIT.false))
     ]
 
 pub returns : goal.returns

@@ -1,9 +1,6 @@
-use mathlib.Core.Logic.{⊎_elim}
-use mathlib.Core.Path.{sym, ◌∙◌}
 use Prim.Native.Nat.{◌-◌, ◌≤◌}
-use native.Mathlib.Omega.{arith}
 use lib.ListN.{length}
-use Rattle.certificate.specs.SentencesLaws.{SentencesPassed, passed_none, passed-some, passed-long, passed-stop, passed-done}
+use Rattle.certificate.specs.SentencesLaws.{SentencesPassed}
 use Rattle.certificate.proofs.sentences.sentence_row.Given as goal
 
 abbrev pub invariant-loop-k : goal.invariant-loop-k

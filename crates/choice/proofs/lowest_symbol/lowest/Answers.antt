@@ -1,14 +1,7 @@
 -- `choice::lowest_symbol::lowest` meets its contract: the row is gone through, and one symbol after the other passed over. Assumes nothing.
 use native.Mathlib.Omega.{arith}
 use Prim.Native.Nat.{◌-◌}
-use Rattle.book.specs.Tables.{tables_of}
-use Rattle.layers.specs.Crossing.{claim_in}
-use Rattle.layers.specs.Layer.{entry_in, layer_in}
-use Rattle.search.specs.Settle.{SearchRoom}
-use Rattle.choice.specs.Choice.{Completing}
-use Rattle.choice.specs.ChoiceLaws.{PassedOver, passed_none, passed-more, passed-found, passed-all}
-use Rattle.walk.specs.Ends.{end_cost}
-use Rattle.walk.specs.Scale.{plain}
+use Rattle.choice.specs.ChoiceLaws.{passed_none, passed-more, passed-found, passed-all}
 use Rattle.choice.proofs.lowest_symbol.lowest.Goals as goal
 
 pub loop-k-init : goal.loop-k-init

@@ -12,8 +12,6 @@ use Rattle.layers.specs.CrossingLaws.{states-are, terminals-are}
 use Rattle.walk.specs.Choice.{Brings}
 use Rattle.walk.specs.Goal.{Aim}
 use Rattle.walk.specs.Scale.{plain}
-use Rattle.search.specs.Settle.{SearchRoom}
-use Rattle.choice.specs.Choosing.{Choosing}
 use Rattle.choice.specs.ChoosingLaws.{Picked, begun-length, choosing-begun, choosing-pick, choosing-more, choosing-done}
 use Rattle.choice.specs.Taking.{Stacked}
 use Rattle.choice.specs.TakingLaws.{part-states}

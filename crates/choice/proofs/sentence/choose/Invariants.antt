@@ -1,21 +1,14 @@
-use native.Mathlib.Omega.{arith}
 use mathlib.Core.List.{reverse}
-use mathlib.Core.Path.{◌≡◌, refl, sym, ◌∙◌, subst}
-use Prim.Native.Nat.{ℕ, ◌+◌, ◌-◌, ◌≤◌, ◌<◌}
-use lib.ListN.{length, take, length-set}
-use lib.Seq.{length-take-le}
+use mathlib.Core.Path.{◌≡◌}
+use Prim.Native.Nat.{◌-◌, ◌≤◌}
+use lib.ListN.{length, take}
 use Rattle.book.specs.Order.{place_in}
 use Rattle.book.specs.Tables.{tables_of}
-use Rattle.book.proofs.TablesLaws.{in-range}
-use Rattle.layers.specs.CrossingLaws.{states-are, terminals-are}
 use Rattle.walk.specs.Choice.{Brings}
 use Rattle.walk.specs.Goal.{Aim}
 use Rattle.walk.specs.Scale.{plain}
 use Rattle.search.specs.Settle.{SearchRoom}
 use Rattle.choice.specs.Choosing.{Choosing}
-use Rattle.choice.specs.ChoosingLaws.{Picked, begun-length, choosing-begun, choosing-pick, choosing-more, choosing-done}
-use Rattle.choice.specs.Taking.{Stacked}
-use Rattle.choice.specs.TakingLaws.{part-states}
 use Rattle.choice.proofs.sentence.choose.Given as goal
 
 abbrev pub invariant-loop-i : goal.invariant-loop-i

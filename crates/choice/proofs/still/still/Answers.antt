@@ -1,8 +1,7 @@
 -- `choice::still::still` meets its contract: one state after the other. Assumes nothing.
 use native.Mathlib.Omega.{arith}
 use native.Mathlib.Nat.{le_antisymm}
-use Prim.Native.Nat.{◌-◌, ◌≤◌}
-use Rattle.choice.specs.Still.{Column}
+use Prim.Native.Nat.{◌-◌}
 use Rattle.choice.specs.StillLaws.{column-none, column-more}
 use Rattle.choice.proofs.still.still.Goals as goal
 

@@ -1,8 +1,5 @@
-use native.Mathlib.Omega.{arith}
-use native.Mathlib.Nat.{le_antisymm}
 use Prim.Native.Nat.{◌-◌, ◌≤◌}
 use Rattle.choice.specs.Still.{Column}
-use Rattle.choice.specs.StillLaws.{column-none, column-more}
 use Rattle.choice.proofs.still.still.Given as goal
 
 abbrev pub invariant-loop-q : goal.invariant-loop-q

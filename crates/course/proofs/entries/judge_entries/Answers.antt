@@ -1,10 +1,7 @@
 -- `course::entries::judge_entries` meets its contract: from each entry on the course is as from the first. Assumes nothing.
-use mathlib.Core.Path.{◌≡◌, refl, sym, ◌∙◌}
+use mathlib.Core.Path.{refl, sym, ◌∙◌}
 use native.Mathlib.Omega.{arith}
-use lib.ListN.{length, drop}
-use Rattle.book.specs.Tables.{tables_of}
-use Rattle.course.specs.Turns.{items_at}
-use Rattle.course.specs.TurnsLaws.{Going, going-none, going_done, going-spelled, going-count, going-fault, going_more, right-below}
+use Rattle.course.proofs.TurnsLaws.{going-none, going_done, going-spelled, going-count, going-fault, going_more, right-below}
 use Rattle.course.specs.EntryLaws.{entry-right}
 use borrow.Author.Rules.{rules}
 use Rattle.course.proofs.entries.judge_entries.Goals as goal

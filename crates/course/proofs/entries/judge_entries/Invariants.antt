@@ -1,10 +1,8 @@
-use mathlib.Core.Path.{◌≡◌, refl, sym, ◌∙◌}
-use native.Mathlib.Omega.{arith}
+use mathlib.Core.Path.{◌≡◌}
 use lib.ListN.{length, drop}
 use Rattle.book.specs.Tables.{tables_of}
 use Rattle.course.specs.Turns.{items_at}
-use Rattle.course.specs.TurnsLaws.{Going, going-none, going_done, going-spelled, going-count, going-fault, going_more, right-below}
-use Rattle.course.specs.EntryLaws.{entry-right}
+use Rattle.course.proofs.TurnsLaws.{Going}
 use Rattle.course.proofs.entries.judge_entries.Given as goal
 
 abbrev pub invariant-loop-e : goal.invariant-loop-e

@@ -1,5 +1,5 @@
 -- `course::entries::weigh` meets its contract: the tests pick a case of `weighed`. Assumes nothing.
-use borrow.Author.Tests.{eq-eqb, ne_eqb, lt-ltb, le-ltb, not-true, not-false}
+use borrow.Author.Tests.{eq-eqb, ne_eqb, lt-ltb, le-ltb}
 use mathlib.Core.Path.{sym, ◌∙◌}
 use Rattle.course.specs.Turns.{weighed}
 use Rattle.course.proofs.entries.weigh.Goals as goal

@@ -1,7 +1,6 @@
 -- The cycle of calls of `crossings::crossing::cross_layers`: each call has one layer less before it. Assumes nothing.
 use native.Mathlib.Omega.{arith}
-use mathlib.Core.Path.{◌∙◌}
-use Prim.Native.Nat.{ℕ, ◌+◌, ◌-◌, ◌*◌, ◌≤◌, ◌<◌}
+use Prim.Native.Nat.{◌+◌, ◌-◌, ◌*◌, ◌≤◌}
 use lib.ListN.{length}
 use Rattle.positions.specs.PositionLaws.{position-row, position-row-size}
 use Rattle.crossings.specs.ReductionLaws.{sound-usable}

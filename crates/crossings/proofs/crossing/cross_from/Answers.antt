@@ -1,5 +1,4 @@
 -- `crossings::crossing::cross_from` meets its contract. Assumes nothing.
-use mathlib.Core.Path.{◌∙◌}
 use Rattle.crossings.specs.FallingLaws.{pass-sunk}
 use Rattle.crossings.specs.PassLaws.{kept-join}
 use Rattle.crossings.proofs.crossing.cross_from.Goals as goal

@@ -1,14 +1,9 @@
-use native.Mathlib.Nat.{le_refl}
-use native.Mathlib.Omega.{arith}
 use Prim.Native.Nat.{◌+◌, min}
 use Rattle.walk.specs.Scale.{plain}
 use Rattle.layers.specs.Layer.{Scratch}
 use Rattle.layers.specs.Total.{total}
 use Rattle.crossings.specs.Falling.{Sunk}
-use Rattle.crossings.specs.FallingLaws.{sunk-more}
 use Rattle.crossings.specs.Pass.{TableKept}
-use Rattle.crossings.specs.PassLaws.{beyond-none, kept-join}
-use Rattle.crossings.specs.CrossingsLaws.{reached-begun}
 use Rattle.crossings.proofs.crossing.cross_short.Given as goal
 
 abbrev pub invariant-loop-lowered : goal.invariant-loop-lowered

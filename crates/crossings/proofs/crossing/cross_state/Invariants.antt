@@ -1,4 +1,3 @@
-use native.Mathlib.Omega.{arith}
 use Prim.Native.Nat.{◌-◌, ◌≤◌}
 use Rattle.book.specs.Tables.{tables_of}
 use Rattle.walk.specs.Scale.{plain}
@@ -6,8 +5,6 @@ use Rattle.layers.specs.Layer.{Scratch}
 use Rattle.layers.specs.Crossing.{claim_in}
 use Rattle.crossings.specs.Falling.{Pass, Each}
 use Rattle.crossings.specs.Pass.{ClosedAt, TableKept}
-use Rattle.crossings.specs.FallingLaws.{pass-more, pass-done}
-use Rattle.crossings.specs.PassLaws.{table-pass-idle, kept-join}
 use Rattle.crossings.proofs.crossing.cross_state.Given as goal
 
 abbrev pub invariant-loop-a : goal.invariant-loop-a

@@ -1,15 +1,5 @@
 -- `crossings::crossing::crossings_with` meets its contract. Assumes nothing.
 use native.Mathlib.Omega.{arith}
-use mathlib.Core.Path.{◌≡◌, ◌∙◌}
-use Prim.Native.Nat.{◌+◌, min}
-use Rattle.book.specs.Tables.{tables_of}
-use Rattle.walk.specs.Scale.{plain}
-use Rattle.walk.specs.Claims.{Closed}
-use Rattle.layers.specs.Layer.{Scratch}
-use Rattle.layers.specs.Crossing.{room, claim_in}
-use Rattle.crossings.specs.Crossings.{Beyond}
-use Rattle.layers.specs.Total.{total}
-use Rattle.crossings.specs.Pass.{SoundTable}
 use Rattle.crossings.specs.PassLaws.{beyond-none, beyond-join, beyond-filled}
 use Rattle.crossings.specs.CrossingsLaws.{room_small, sound-filled, closed_all, table-exact}
 use Rattle.crossings.proofs.crossing.crossings_with.Goals as goal

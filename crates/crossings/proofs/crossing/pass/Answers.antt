@@ -1,12 +1,6 @@
 -- `crossings::crossing::pass` meets its contract. Assumes nothing.
 use native.Mathlib.Omega.{arith}
-use Prim.Native.Nat.{◌-◌, ◌≤◌}
-use Rattle.book.specs.Tables.{tables_of}
-use Rattle.walk.specs.Scale.{plain}
-use Rattle.layers.specs.Layer.{Scratch}
-use Rattle.layers.specs.Crossing.{claim_in}
-use Rattle.crossings.specs.Falling.{Pass, Each}
-use Rattle.crossings.specs.Pass.{ClosedAt, TableKept}
+use Prim.Native.Nat.{◌-◌}
 use Rattle.crossings.specs.FallingLaws.{pass-more, pass-done}
 use Rattle.crossings.specs.PassLaws.{table-pass-idle, kept-join}
 use Rattle.crossings.proofs.crossing.pass.Goals as goal

@@ -1,9 +1,6 @@
-use native.Mathlib.Omega.{arith}
 use Prim.Native.Nat.{◌-◌, ◌≤◌}
-use native.Mathlib.Nat.{le_antisymm}
 use Rattle.book.specs.Tables.{tables_of}
 use Rattle.crossings.specs.Pass.{LongestFrom}
-use Rattle.crossings.specs.CrossingsLaws.{longest-from-more}
 use Rattle.crossings.proofs.production.longest.Given as goal
 
 abbrev pub invariant-loop-p : goal.invariant-loop-p

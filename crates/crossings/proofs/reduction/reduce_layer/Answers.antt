@@ -1,14 +1,7 @@
 -- `crossings::reduction::reduce_layer` meets its contract. Assumes nothing.
 use native.Mathlib.Omega.{arith}
-use Prim.Native.Nat.{◌-◌, ◌≤◌, ◌<◌}
+use Prim.Native.Nat.{◌-◌, ◌<◌}
 use lib.ListN.{get_or}
-use Rattle.book.specs.Tables.{tables_of}
-use Rattle.walk.specs.Scale.{plain}
-use Rattle.layers.specs.Layer.{value_in}
-use Rattle.layers.specs.Crossing.{claim_in}
-use Rattle.layers.specs.States.{listed_in}
-use Rattle.crossings.specs.Falling.{Pass, Each}
-use Rattle.crossings.specs.Pass.{ReductionSettled, TableKept}
 use Rattle.crossings.specs.FallingLaws.{pass-more, pass-map, pass-done}
 use Rattle.crossings.specs.PassLaws.{table-pass-idle, kept-join}
 use Rattle.crossings.specs.ReductionLaws.{settled-listed}

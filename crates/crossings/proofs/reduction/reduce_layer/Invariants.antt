@@ -1,6 +1,4 @@
-use native.Mathlib.Omega.{arith}
-use Prim.Native.Nat.{◌-◌, ◌≤◌, ◌<◌}
-use lib.ListN.{get_or}
+use Prim.Native.Nat.{◌-◌, ◌≤◌}
 use Rattle.book.specs.Tables.{tables_of}
 use Rattle.walk.specs.Scale.{plain}
 use Rattle.layers.specs.Layer.{value_in}
@@ -8,9 +6,6 @@ use Rattle.layers.specs.Crossing.{claim_in}
 use Rattle.layers.specs.States.{listed_in}
 use Rattle.crossings.specs.Falling.{Pass, Each}
 use Rattle.crossings.specs.Pass.{ReductionSettled, TableKept}
-use Rattle.crossings.specs.FallingLaws.{pass-more, pass-map, pass-done}
-use Rattle.crossings.specs.PassLaws.{table-pass-idle, kept-join}
-use Rattle.crossings.specs.ReductionLaws.{settled-listed}
 use Rattle.crossings.proofs.reduction.reduce_layer.Given as goal
 
 abbrev pub invariant-loop-i : goal.invariant-loop-i

@@ -1,15 +1,10 @@
-use native.Mathlib.Omega.{arith}
 use Prim.Native.Nat.{◌-◌, ◌≤◌}
 use Rattle.book.specs.Tables.{tables_of}
 use Rattle.walk.specs.Scale.{plain}
 use Rattle.layers.specs.Layer.{value_in}
-use Rattle.layers.specs.LayerLaws.{value_read}
 use Rattle.layers.specs.Crossing.{claim_in}
-use Rattle.layers.specs.CrossingLaws.{terminals-are}
 use Rattle.crossings.specs.Falling.{Pass, Each}
 use Rattle.crossings.specs.Pass.{ReductionSettled, TableKept}
-use Rattle.crossings.specs.FallingLaws.{pass-more, pass-done}
-use Rattle.crossings.specs.PassLaws.{table-pass-idle, kept-join}
 use Rattle.crossings.proofs.reduction.reduce_state.Given as goal
 
 abbrev pub invariant-loop-z : goal.invariant-loop-z

@@ -1,15 +1,10 @@
 -- `distances::start::from_start` meets its contract. Assumes nothing.
 use native.Mathlib.Omega.{arith}
-use mathlib.Core.Path.{◌≡◌}
-use Prim.Native.Nat.{ℕ, ◌+◌, min}
-use lib.ListN.{length, length-replicate}
-use Rattle.book.specs.Tables.{tables_of}
+use Prim.Native.Nat.{ℕ}
+use lib.ListN.{length-replicate}
 use Rattle.walk.specs.Scale.{plain, unreached}
-use Rattle.layers.specs.Crossing.{claim_in}
-use Rattle.layers.specs.Total.{total}
-use Rattle.distances.specs.Pass.{Arrived}
 use Rattle.distances.specs.TableLaws.{table-usable}
-use Rattle.distances.specs.StartLaws.{DistancesSettled, arrived-start, lengthened-whole, arrived-more, settled-more, start-table}
+use Rattle.distances.specs.StartLaws.{arrived-start, lengthened-whole, arrived-more, settled-more, start-table}
 use Rattle.distances.proofs.start.from_start.Goals as goal
 
 pub level-requires : goal.level-requires

@@ -1,14 +1,12 @@
-use native.Mathlib.Omega.{arith}
 use mathlib.Core.Path.{◌≡◌}
-use Prim.Native.Nat.{ℕ, ◌+◌, min}
-use lib.ListN.{length, length-replicate}
+use Prim.Native.Nat.{◌+◌, min}
+use lib.ListN.{length}
 use Rattle.book.specs.Tables.{tables_of}
-use Rattle.walk.specs.Scale.{plain, unreached}
+use Rattle.walk.specs.Scale.{plain}
 use Rattle.layers.specs.Crossing.{claim_in}
 use Rattle.layers.specs.Total.{total}
 use Rattle.distances.specs.Pass.{Arrived}
-use Rattle.distances.specs.TableLaws.{table-usable}
-use Rattle.distances.specs.StartLaws.{DistancesSettled, arrived-start, lengthened-whole, arrived-more, settled-more, start-table}
+use Rattle.distances.specs.StartLaws.{DistancesSettled}
 use Rattle.distances.proofs.start.from_start.Given as goal
 
 abbrev pub invariant-loop-n : goal.invariant-loop-n

@@ -1,12 +1,9 @@
-use native.Mathlib.Omega.{arith}
-use Prim.Native.Nat.{◌-◌, ◌≤◌, ◌<◌}
-use lib.ListN.{get_or}
+use Prim.Native.Nat.{◌-◌, ◌≤◌}
 use Rattle.walk.specs.Scale.{plain}
 use Rattle.layers.specs.Layer.{value_in}
 use Rattle.layers.specs.States.{listed_in}
 use Rattle.layers.specs.Step.{Upto}
 use Rattle.distances.specs.Pass.{Merged, Offer}
-use Rattle.distances.specs.PassLaws.{merged-zero, merged-more, merged-done, merged-listed}
 use Rattle.distances.proofs.start.merge.Given as goal
 
 abbrev pub invariant-loop-i : goal.invariant-loop-i

@@ -1,12 +1,9 @@
 -- `distances::start::merge_state` meets its contract. Assumes nothing.
 use native.Mathlib.Omega.{arith}
 use mathlib.Core.Path.{sym}
-use Prim.Native.Nat.{◌-◌, ◌≤◌}
+use Prim.Native.Nat.{◌-◌}
 use Rattle.walk.specs.Scale.{plain}
-use Rattle.layers.specs.Layer.{value_in}
 use Rattle.layers.specs.LayerLaws.{value_read}
-use Rattle.layers.specs.Step.{Upto}
-use Rattle.distances.specs.Pass.{Merged, Offer}
 use Rattle.distances.specs.PassLaws.{merged-zero, merged-store, merged-more, merged-done}
 use Rattle.distances.proofs.start.merge_state.Goals as goal
 

@@ -1,12 +1,6 @@
 -- `distances::to_goals::approach_state` meets its contract. Assumes nothing.
 use native.Mathlib.Omega.{arith}
-use Prim.Native.Nat.{◌-◌, ◌≤◌}
-use Rattle.book.specs.Tables.{tables_of}
-use Rattle.walk.specs.Scale.{plain}
-use Rattle.layers.specs.Crossing.{claim_in}
-use Rattle.crossings.specs.Falling.{Pass, Each}
-use Rattle.distances.specs.Distances.{distance_in}
-use Rattle.distances.specs.Pass.{Drawn, Marked, LeastApproach}
+use Prim.Native.Nat.{◌-◌}
 use Rattle.crossings.specs.FallingLaws.{pass-more, pass-done}
 use Rattle.distances.specs.PassLaws.{distance-pass-idle, drawn-join}
 use Rattle.distances.proofs.to_goals.approach_state.Goals as goal

@@ -1,11 +1,9 @@
 -- `distances::to_goals::has_distance` meets its contract. Assumes nothing.
 use native.Mathlib.Omega.{arith}
-use mathlib.Core.Path.{◌≡◌}
-use Prim.Native.Nat.{ℕ, ◌-◌, ◌≤◌, ◌<◌}
+use Prim.Native.Nat.{◌-◌}
 use borrow.Author.Count.{below_more}
 use native.Mathlib.Nat.{le_antisymm}
-use Rattle.walk.specs.Scale.{plain, unreached}
-use Rattle.distances.specs.Distances.{distance_in}
+use Rattle.walk.specs.Scale.{plain}
 use Rattle.distances.specs.DistancesLaws.{distance_read}
 use Rattle.distances.proofs.to_goals.has_distance.Goals as goal
 

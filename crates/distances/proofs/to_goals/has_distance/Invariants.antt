@@ -1,11 +1,7 @@
-use native.Mathlib.Omega.{arith}
 use mathlib.Core.Path.{◌≡◌}
 use Prim.Native.Nat.{ℕ, ◌-◌, ◌≤◌, ◌<◌}
-use borrow.Author.Count.{below_more}
-use native.Mathlib.Nat.{le_antisymm}
 use Rattle.walk.specs.Scale.{plain, unreached}
 use Rattle.distances.specs.Distances.{distance_in}
-use Rattle.distances.specs.DistancesLaws.{distance_read}
 use Rattle.distances.proofs.to_goals.has_distance.Given as goal
 
 abbrev pub invariant-loop-z : goal.invariant-loop-z

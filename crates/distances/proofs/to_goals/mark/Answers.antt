@@ -1,9 +1,8 @@
 -- `distances::to_goals::mark` meets its contract. Assumes nothing.
 use native.Mathlib.Omega.{arith}
-use Prim.Native.Nat.{◌-◌, ◌≤◌}
+use Prim.Native.Nat.{◌-◌}
 use native.Mathlib.Nat.{le_antisymm}
-use Rattle.walk.specs.Scale.{plain}
-use Rattle.distances.specs.GoalLaws.{MarkedBelow, below_more, below_all}
+use Rattle.distances.specs.GoalLaws.{below_more, below_all}
 use Rattle.distances.proofs.to_goals.mark.Goals as goal
 
 pub loop-q-init : goal.loop-q-init

@@ -1,8 +1,6 @@
-use native.Mathlib.Omega.{arith}
 use Prim.Native.Nat.{◌-◌, ◌≤◌}
-use native.Mathlib.Nat.{le_antisymm}
 use Rattle.walk.specs.Scale.{plain}
-use Rattle.distances.specs.GoalLaws.{MarkedBelow, below_more, below_all}
+use Rattle.distances.specs.GoalLaws.{MarkedBelow}
 use Rattle.distances.proofs.to_goals.mark.Given as goal
 
 abbrev pub invariant-loop-q : goal.invariant-loop-q

@@ -1,4 +1,3 @@
-use native.Mathlib.Omega.{arith}
 use Prim.Native.Nat.{◌-◌, ◌≤◌}
 use Rattle.book.specs.Tables.{tables_of}
 use Rattle.walk.specs.Scale.{plain}
@@ -6,8 +5,6 @@ use Rattle.layers.specs.Crossing.{claim_in}
 use Rattle.crossings.specs.Falling.{Pass, Each}
 use Rattle.distances.specs.Distances.{distance_in}
 use Rattle.distances.specs.Pass.{Drawn, Marked, LeastApproach}
-use Rattle.crossings.specs.FallingLaws.{pass-more, pass-done}
-use Rattle.distances.specs.PassLaws.{distance-pass-idle, drawn-join}
 use Rattle.distances.proofs.to_goals.pass.Given as goal
 
 abbrev pub invariant-loop-i : goal.invariant-loop-i

@@ -1,16 +1,9 @@
 -- `distances::to_goals::to_goal` meets its contract. Assumes nothing.
 use native.Mathlib.Omega.{arith}
-use mathlib.Core.Path.{◌≡◌}
-use Prim.Native.Nat.{ℕ, ◌+◌, min}
+use Prim.Native.Nat.{ℕ}
 use lib.ListN.{length-replicate}
-use Rattle.book.specs.Tables.{tables_of}
 use Rattle.walk.specs.Scale.{plain}
-use Rattle.layers.specs.Crossing.{claim_in}
 use Rattle.layers.specs.CrossingLaws.{terminals-are}
-use Rattle.layers.specs.Total.{total}
-use Rattle.crossings.specs.Falling.{Each}
-use Rattle.distances.specs.Distances.{distance_in}
-use Rattle.distances.specs.Pass.{Drawn, Marked, LeastApproach}
 use Rattle.distances.specs.PassLaws.{drawn-same, drawn-join}
 use Rattle.distances.specs.TableLaws.{table-usable}
 use Rattle.distances.specs.GoalLaws.{nearest-back, goal-table}

@@ -1,18 +1,12 @@
-use native.Mathlib.Omega.{arith}
 use mathlib.Core.Path.{◌≡◌}
-use Prim.Native.Nat.{ℕ, ◌+◌, min}
-use lib.ListN.{length-replicate}
+use Prim.Native.Nat.{◌+◌, min}
 use Rattle.book.specs.Tables.{tables_of}
 use Rattle.walk.specs.Scale.{plain}
 use Rattle.layers.specs.Crossing.{claim_in}
-use Rattle.layers.specs.CrossingLaws.{terminals-are}
 use Rattle.layers.specs.Total.{total}
 use Rattle.crossings.specs.Falling.{Each}
 use Rattle.distances.specs.Distances.{distance_in}
 use Rattle.distances.specs.Pass.{Drawn, Marked, LeastApproach}
-use Rattle.distances.specs.PassLaws.{drawn-same, drawn-join}
-use Rattle.distances.specs.TableLaws.{table-usable}
-use Rattle.distances.specs.GoalLaws.{nearest-back, goal-table}
 use Rattle.distances.proofs.to_goals.to_goal.Given as goal
 
 abbrev pub invariant-loop-n : goal.invariant-loop-n

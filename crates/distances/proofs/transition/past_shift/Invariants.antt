@@ -1,11 +1,6 @@
-use native.Mathlib.Omega.{arith}
-use mathlib.Core.Path.{refl}
 use Prim.Native.Nat.{◌-◌, ◌≤◌}
-use Rattle.layers.specs.StepLaws.{step-zero, step-more, step-done}
 use Rattle.distances.specs.Distances.{distance_in}
-use Rattle.distances.specs.DistancesLaws.{distance_read}
 use Rattle.distances.specs.Pass.{LessenedUpto, PastShift}
-use Rattle.distances.specs.GoalLaws.{lessened, past-shift-off}
 use Rattle.walk.specs.Scale.{plain}
 use Rattle.distances.proofs.transition.past_shift.Given as goal
 

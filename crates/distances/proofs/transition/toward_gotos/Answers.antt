@@ -1,12 +1,7 @@
 -- `distances::transition::toward_gotos` meets its contract. Assumes nothing.
 use native.Mathlib.Omega.{arith}
-use Prim.Native.Nat.{◌-◌, ◌≤◌}
-use Rattle.book.specs.Tables.{tables_of}
-use Rattle.walk.specs.Scale.{plain}
-use Rattle.layers.specs.Crossing.{claim_in}
+use Prim.Native.Nat.{◌-◌}
 use Rattle.layers.specs.StepLaws.{step-zero, step-more, step-done}
-use Rattle.distances.specs.Distances.{distance_in}
-use Rattle.distances.specs.Pass.{LessenedUpto, TowardGoto}
 use Rattle.distances.proofs.transition.toward_gotos.Goals as goal
 
 pub loop-x-init : goal.loop-x-init

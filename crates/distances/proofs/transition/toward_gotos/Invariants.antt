@@ -1,9 +1,7 @@
-use native.Mathlib.Omega.{arith}
 use Prim.Native.Nat.{◌-◌, ◌≤◌}
 use Rattle.book.specs.Tables.{tables_of}
 use Rattle.walk.specs.Scale.{plain}
 use Rattle.layers.specs.Crossing.{claim_in}
-use Rattle.layers.specs.StepLaws.{step-zero, step-more, step-done}
 use Rattle.distances.specs.Distances.{distance_in}
 use Rattle.distances.specs.Pass.{LessenedUpto, TowardGoto}
 use Rattle.distances.proofs.transition.toward_gotos.Given as goal

@@ -2,9 +2,9 @@
 use mathlib.Core.Path.{◌≡◌, refl}
 use native.Mathlib.Numerals.{add-one}
 use native.Mathlib.Omega.{arith}
-use Prim.Native.Nat.{◌-◌, ◌≤◌}
-use lib.ListN.{length, drop, length-set, length-drop}
-use lib.Seq.{paste, paste-zero, paste-suc, get_or-drop}
+use Prim.Native.Nat.{◌-◌}
+use lib.ListN.{drop, length-set, length-drop}
+use lib.Seq.{paste-zero, paste-suc, get_or-drop}
 use Rattle.forms.proofs.cells.copy.Goals as goal
 
 pub loop-i-init : goal.loop-i-init

@@ -1,9 +1,7 @@
-use mathlib.Core.Path.{◌≡◌, refl}
-use native.Mathlib.Numerals.{add-one}
-use native.Mathlib.Omega.{arith}
+use mathlib.Core.Path.{◌≡◌}
 use Prim.Native.Nat.{◌-◌, ◌≤◌}
-use lib.ListN.{length, drop, length-set, length-drop}
-use lib.Seq.{paste, paste-zero, paste-suc, get_or-drop}
+use lib.ListN.{length, drop}
+use lib.Seq.{paste}
 use Rattle.forms.proofs.cells.copy.Given as goal
 
 abbrev pub invariant-loop-i : goal.invariant-loop-i

@@ -1,7 +1,7 @@
 -- `forms::order::by_rank` meets its contract: terminal by terminal. Assumes nothing.
 use native.Mathlib.Omega.{arith}
-use Prim.Native.Nat.{◌-◌, ◌≤◌}
-use Rattle.forms.specs.OrderLaws.{Filling, filling-none, filling-more, filling-done}
+use Prim.Native.Nat.{◌-◌}
+use Rattle.forms.specs.OrderLaws.{filling-none, filling-more, filling-done}
 use Rattle.forms.specs.RankLaws.{rank_below}
 use Rattle.forms.proofs.WritingLaws.{bounds}
 use Rattle.forms.proofs.order.by_rank.Goals as goal

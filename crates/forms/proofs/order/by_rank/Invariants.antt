@@ -1,8 +1,5 @@
-use native.Mathlib.Omega.{arith}
 use Prim.Native.Nat.{◌-◌, ◌≤◌}
-use Rattle.forms.specs.OrderLaws.{Filling, filling-none, filling-more, filling-done}
-use Rattle.forms.specs.RankLaws.{rank_below}
-use Rattle.forms.proofs.WritingLaws.{bounds}
+use Rattle.forms.specs.OrderLaws.{Filling}
 use Rattle.forms.proofs.order.by_rank.Given as goal
 
 abbrev pub invariant-loop-a : goal.invariant-loop-a

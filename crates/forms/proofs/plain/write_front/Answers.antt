@@ -1,5 +1,4 @@
 -- `forms::plain::write_front` meets its contract. Assumes nothing.
-use mathlib.Core.Path.{◌∙◌}
 use native.Mathlib.Omega.{arith}
 use lib.ListN.{length-set}
 use Rattle.forms.proofs.WritingLaws.{bounds, front-written}

@@ -1,13 +1,9 @@
 use mathlib.Core.Bool.{not}
-use mathlib.Core.Path.{◌≡◌, ◌∙◌, sym}
-use native.Mathlib.Omega.{arith}
+use mathlib.Core.Path.{◌≡◌}
 use Prim.Native.Nat.{◌-◌, ◌≤◌}
-use borrow.Author.Tests.{eq-eqb, ne_eqb}
 use lib.Dec.{eqb}
 use Rattle.book.specs.Tables.{rank_of}
 use Rattle.forms.specs.Forms.{lowest}
-use Rattle.forms.specs.RankLaws.{rank_below, lowest-more, lowest-found, lowest-done}
-use Rattle.forms.proofs.WritingLaws.{bounds}
 use Rattle.forms.proofs.ranks.first_moved.Given as goal
 
 abbrev pub invariant-loop-a : goal.invariant-loop-a

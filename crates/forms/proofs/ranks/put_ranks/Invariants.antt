@@ -1,13 +1,9 @@
-use mathlib.Core.Path.{◌≡◌, refl}
-use native.Mathlib.Numerals.{add-one}
-use native.Mathlib.Omega.{arith}
+use mathlib.Core.Path.{◌≡◌}
 use Prim.Native.Nat.{◌-◌, ◌≤◌}
-use lib.ListN.{length, length-set}
-use lib.Seq.{paste, paste-zero, paste-suc}
+use lib.ListN.{length}
+use lib.Seq.{paste}
 use Rattle.number.specs.Lent.{firsts}
-use Rattle.number.specs.LentLaws.{firsts-length, firsts-entry}
 use Rattle.book.specs.Tables.{rank_of}
-use Rattle.forms.proofs.WritingLaws.{bounds}
 use Rattle.forms.proofs.ranks.put_ranks.Given as goal
 
 abbrev pub invariant-loop-a : goal.invariant-loop-a

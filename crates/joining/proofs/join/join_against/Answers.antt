@@ -1,7 +1,7 @@
 -- `joining::join::join_against` meets its contract: the first list next. Assumes nothing.
 use mathlib.Core.Path.{sym, ◌∙◌}
 use Rattle.course.specs.AcceptedLaws.{list-accepted}
-use Rattle.joining.specs.JoinLaws.{first-unlisted}
+use Rattle.joining.proofs.JoinLaws.{first-unlisted}
 use Rattle.joining.proofs.join.join_against.Goals as goal
 
 pub join_with-requires : goal.join_with-requires

@@ -1,6 +1,6 @@
 -- `joining::join::join_lists` meets its contract: the book first. Assumes nothing.
 use mathlib.Core.Path.{sym, ◌∙◌}
-use Rattle.joining.specs.JoinLaws.{joins-unbooked, joins-booked}
+use Rattle.joining.proofs.JoinLaws.{joins-unbooked, joins-booked}
 use Rattle.joining.proofs.join.join_lists.Goals as goal
 
 pub join_against-requires : goal.join_against-requires

@@ -1,6 +1,6 @@
 -- `joining::join::join_plain` meets its contract: the first list's first fault, or else the second list. Assumes nothing.
 use Rattle.course.specs.AcceptedLaws.{accepted-standing}
-use Rattle.joining.specs.JoinLaws.{first-fault}
+use Rattle.joining.proofs.JoinLaws.{first-fault}
 use borrow.Author.Rules.{rules}
 use Rattle.joining.proofs.join.join_plain.Goals as goal
 

@@ -2,7 +2,7 @@
 use native.Mathlib.Omega.{arith}
 use Rattle.number.specs.NumberLaws.{Bytes}
 use Rattle.course.specs.AcceptedLaws.{accepted-standing}
-use Rattle.joining.specs.JoinLaws.{second-fault, accepted-joined}
+use Rattle.joining.proofs.JoinLaws.{second-fault, accepted-joined}
 use borrow.Author.Rules.{rules}
 use Rattle.joining.proofs.join.join_second.Goals as goal
 

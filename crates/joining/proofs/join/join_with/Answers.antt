@@ -1,7 +1,7 @@
 -- `joining::join::join_with` meets its contract: the second list next. Assumes nothing.
 use mathlib.Core.Path.{sym, ◌∙◌}
 use Rattle.course.specs.AcceptedLaws.{list-accepted}
-use Rattle.joining.specs.JoinLaws.{second-unlisted}
+use Rattle.joining.proofs.JoinLaws.{second-unlisted}
 use Rattle.joining.proofs.join.join_with.Goals as goal
 
 pub join_from-requires : goal.join_from-requires

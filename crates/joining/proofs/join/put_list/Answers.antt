@@ -5,7 +5,7 @@ use Prim.Native.Nat.{◌+◌}
 use lib.ListN.{length}
 use lib.Seq.{length-sets}
 use Rattle.number.specs.Number.{written}
-use Rattle.joining.specs.JoinLaws.{pieces-short, count-short, list_put}
+use Rattle.joining.proofs.JoinLaws.{pieces-short, count-short, list_put}
 use Rattle.pieces.specs.Pieces.{pieces_to, count_to}
 use borrow.Author.Rules.{rules}
 use Rattle.joining.proofs.join.put_list.Goals as goal

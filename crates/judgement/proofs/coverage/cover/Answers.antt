@@ -2,7 +2,7 @@
 use Prim.Native.Nat.{ℕ}
 use lib.ListN.{length-replicate}
 use Rattle.walk.specs.Scale.{plain, unreached}
-use Rattle.judgement.specs.CoverageLaws.{start-covered}
+use Rattle.judgement.proofs.CoverageLaws.{start-covered}
 use Rattle.judgement.proofs.coverage.cover.Goals as goal
 
 pub crossings_with-requires : goal.crossings_with-requires

@@ -1,11 +1,9 @@
 -- `judgement::coverage::fails` meets its contract: from each terminal on it is as from the first. Assumes nothing.
 use native.Mathlib.Nat.{sub-zero}
-use mathlib.Core.Path.{◌≡◌, sym, ◌∙◌}
+use mathlib.Core.Path.{sym, ◌∙◌}
 use native.Mathlib.Omega.{arith}
-use Prim.Native.Nat.{◌-◌, ◌≤◌}
-use Rattle.failing.specs.Tests.{fails_in}
-use Rattle.judgement.specs.Coverage.{some, state_fails}
-use Rattle.judgement.specs.CoverageLaws.{some-here, some-on, some-done}
+use Prim.Native.Nat.{◌-◌}
+use Rattle.judgement.proofs.CoverageLaws.{some-here, some-on, some-done}
 use Rattle.judgement.proofs.coverage.fails.Goals as goal
 
 pub loop-z-init : goal.loop-z-init

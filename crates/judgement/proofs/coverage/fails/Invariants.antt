@@ -1,10 +1,7 @@
-use native.Mathlib.Nat.{sub-zero}
-use mathlib.Core.Path.{◌≡◌, sym, ◌∙◌}
-use native.Mathlib.Omega.{arith}
+use mathlib.Core.Path.{◌≡◌}
 use Prim.Native.Nat.{◌-◌, ◌≤◌}
 use Rattle.failing.specs.Tests.{fails_in}
 use Rattle.judgement.specs.Coverage.{some, state_fails}
-use Rattle.judgement.specs.CoverageLaws.{some-here, some-on, some-done}
 use Rattle.judgement.proofs.coverage.fails.Given as goal
 
 abbrev pub invariant-loop-z : goal.invariant-loop-z

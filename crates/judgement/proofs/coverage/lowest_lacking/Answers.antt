@@ -1,11 +1,9 @@
 -- `judgement::coverage::lowest_lacking` meets its contract: from each state on it is as from the first. Assumes nothing.
 use native.Mathlib.Nat.{sub-zero}
-use mathlib.Core.Path.{◌≡◌, sym, ◌∙◌}
+use mathlib.Core.Path.{sym, ◌∙◌}
 use native.Mathlib.Omega.{arith}
-use Prim.Native.Nat.{◌-◌, ◌≤◌}
-use Rattle.judgement.specs.Coverage.{state_fails, lacks_in}
+use Prim.Native.Nat.{◌-◌}
 use Rattle.judgement.specs.CoverageLaws.{lowest-here, lowest-on, lowest-done}
-use Rattle.judgement.specs.Judgement.{lowest_state}
 use Rattle.judgement.proofs.coverage.lowest_lacking.Goals as goal
 
 pub loop-q-init : goal.loop-q-init

@@ -1,9 +1,6 @@
-use native.Mathlib.Nat.{sub-zero}
-use mathlib.Core.Path.{◌≡◌, sym, ◌∙◌}
-use native.Mathlib.Omega.{arith}
+use mathlib.Core.Path.{◌≡◌}
 use Prim.Native.Nat.{◌-◌, ◌≤◌}
 use Rattle.judgement.specs.Coverage.{state_fails, lacks_in}
-use Rattle.judgement.specs.CoverageLaws.{lowest-here, lowest-on, lowest-done}
 use Rattle.judgement.specs.Judgement.{lowest_state}
 use Rattle.judgement.proofs.coverage.lowest_lacking.Given as goal
 

@@ -1,8 +1,7 @@
 -- `layers::leaving::list_terminals` meets its contract. Assumes nothing.
 use native.Mathlib.Omega.{arith}
 use native.Mathlib.Nat.{le_antisymm}
-use Prim.Native.Nat.{◌-◌, ◌≤◌}
-use Rattle.layers.specs.Leaving.{TerminalsListed}
+use Prim.Native.Nat.{◌-◌}
 use Rattle.layers.specs.LeavingLaws.{terminals-none}
 use Rattle.layers.proofs.leaving.list_terminals.Goals as goal
 

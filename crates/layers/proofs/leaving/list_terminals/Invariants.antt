@@ -1,8 +1,5 @@
-use native.Mathlib.Omega.{arith}
-use native.Mathlib.Nat.{le_antisymm}
 use Prim.Native.Nat.{◌-◌, ◌≤◌}
 use Rattle.layers.specs.Leaving.{TerminalsListed}
-use Rattle.layers.specs.LeavingLaws.{terminals-none}
 use Rattle.layers.proofs.leaving.list_terminals.Given as goal
 
 abbrev pub invariant-loop-a : goal.invariant-loop-a

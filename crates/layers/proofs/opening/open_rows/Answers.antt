@@ -1,9 +1,8 @@
 -- `layers::opening::open_rows` meets its contract. Assumes nothing.
 use native.Mathlib.Omega.{arith}
-use Prim.Native.Nat.{ℕ, ◌-◌, ◌≤◌}
+use Prim.Native.Nat.{ℕ, ◌-◌}
 use lib.ListN.{length-replicate}
-use Rattle.book.specs.Tables.{tables_of}
-use Rattle.layers.specs.OpeningLaws.{FirstRows, first_more, all-rows}
+use Rattle.layers.specs.OpeningLaws.{first_more, all-rows}
 use Rattle.layers.proofs.opening.open_rows.Goals as goal
 
 pub loop-k-init : goal.loop-k-init

@@ -1,8 +1,6 @@
-use native.Mathlib.Omega.{arith}
-use Prim.Native.Nat.{ℕ, ◌-◌, ◌≤◌}
-use lib.ListN.{length-replicate}
+use Prim.Native.Nat.{◌-◌, ◌≤◌}
 use Rattle.book.specs.Tables.{tables_of}
-use Rattle.layers.specs.OpeningLaws.{FirstRows, first_more, all-rows}
+use Rattle.layers.specs.OpeningLaws.{FirstRows}
 use Rattle.layers.proofs.opening.open_rows.Given as goal
 
 abbrev pub invariant-loop-k : goal.invariant-loop-k

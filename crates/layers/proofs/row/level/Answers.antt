@@ -1,12 +1,9 @@
 -- `layers::row::level` meets its contract. Assumes nothing.
 use native.Mathlib.Omega.{arith}
-use mathlib.Core.Path.{◌≡◌, refl}
-use Prim.Native.Nat.{◌-◌, ◌≤◌}
-use lib.ListN.{length, length-set}
-use Rattle.layers.specs.Layer.{entry_in}
-use Rattle.layers.specs.Step.{TableStep, Upto, Level}
+use mathlib.Core.Path.{refl}
+use Prim.Native.Nat.{◌-◌}
+use lib.ListN.{length-set}
 use Rattle.layers.specs.StepLaws.{step-zero, step-more, step-least, step-done}
-use Rattle.walk.specs.Scale.{plain}
 use Rattle.layers.proofs.row.level.Goals as goal
 
 pub loop-z-init : goal.loop-z-init

@@ -1,10 +1,8 @@
-use native.Mathlib.Omega.{arith}
-use mathlib.Core.Path.{◌≡◌, refl}
+use mathlib.Core.Path.{◌≡◌}
 use Prim.Native.Nat.{◌-◌, ◌≤◌}
-use lib.ListN.{length, length-set}
+use lib.ListN.{length}
 use Rattle.layers.specs.Layer.{entry_in}
 use Rattle.layers.specs.Step.{TableStep, Upto, Level}
-use Rattle.layers.specs.StepLaws.{step-zero, step-more, step-least, step-done}
 use Rattle.walk.specs.Scale.{plain}
 use Rattle.layers.proofs.row.level.Given as goal
 

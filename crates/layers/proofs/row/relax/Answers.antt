@@ -1,10 +1,8 @@
 -- `layers::row::relax` meets its contract. Assumes nothing.
 use native.Mathlib.Omega.{arith}
 use native.Mathlib.Nat.{le_antisymm}
-use mathlib.Core.Path.{◌≡◌}
-use Prim.Native.Nat.{◌-◌, ◌≤◌}
+use Prim.Native.Nat.{◌-◌}
 use Rattle.walk.specs.Scale.{plain}
-use Rattle.layers.specs.Step.{relaxed}
 use Rattle.layers.specs.StepLaws.{relaxed-none, relaxed-more}
 use Rattle.layers.proofs.row.relax.Goals as goal
 

@@ -1,10 +1,7 @@
-use native.Mathlib.Omega.{arith}
-use native.Mathlib.Nat.{le_antisymm}
 use mathlib.Core.Path.{◌≡◌}
 use Prim.Native.Nat.{◌-◌, ◌≤◌}
 use Rattle.walk.specs.Scale.{plain}
 use Rattle.layers.specs.Step.{relaxed}
-use Rattle.layers.specs.StepLaws.{relaxed-none, relaxed-more}
 use Rattle.layers.proofs.row.relax.Given as goal
 
 abbrev pub invariant-loop-z : goal.invariant-loop-z

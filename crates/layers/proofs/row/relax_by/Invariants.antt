@@ -1,11 +1,9 @@
-use native.Mathlib.Omega.{arith}
-use mathlib.Core.Path.{◌≡◌, ◌∙◌}
+use mathlib.Core.Path.{◌≡◌}
 use Prim.Native.Nat.{◌-◌, ◌≤◌}
 use lib.ListN.{length}
 use Rattle.walk.specs.Scale.{plain}
 use Rattle.layers.specs.Layer.{entry_in}
 use Rattle.layers.specs.Step.{TableStep, RelaxedBy}
-use Rattle.layers.specs.StepLaws.{step-zero, step-more, step-done, step-relaxed, relaxed-size}
 use Rattle.layers.proofs.row.relax_by.Given as goal
 
 abbrev pub invariant-loop-k : goal.invariant-loop-k

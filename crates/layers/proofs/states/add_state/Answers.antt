@@ -1,7 +1,5 @@
 -- `layers::states::add_state` meets its contract: fewer are on than there are states. Assumes nothing.
-use Prim.Native.Nat.{◌<◌}
 use native.Mathlib.Omega.{arith}
-use lib.ListN.{get_or}
 use Rattle.layers.specs.StatesLaws.{room-left}
 use Rattle.layers.proofs.states.add_state.Goals as goal
 

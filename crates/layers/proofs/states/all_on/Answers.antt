@@ -1,8 +1,7 @@
 -- `layers::states::all_on` meets its contract. Assumes nothing.
-use Prim.Native.Nat.{◌-◌, ◌≤◌}
+use Prim.Native.Nat.{◌-◌}
 use native.Mathlib.Nat.{le_refl, le_antisymm}
 use native.Mathlib.Omega.{arith}
-use Rattle.layers.specs.States.{AllOn}
 use Rattle.layers.specs.StatesLaws.{listed-none, listed-most, listed-off, all_more}
 use Rattle.layers.proofs.states.all_on.Goals as goal
 

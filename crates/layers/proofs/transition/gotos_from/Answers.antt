@@ -5,11 +5,8 @@ use Prim.Native.Nat.{◌+◌, ◌*◌, ◌-◌, ◌≤◌, ◌<◌}
 use lib.ListN.{get_or, length}
 use Rattle.book.specs.IndexLaws.{mul_small}
 use Rattle.book.specs.Tables.{tables_of}
-use Rattle.walk.specs.Scale.{plain}
 use Rattle.layers.specs.CrossingLaws.{rows_fit}
-use Rattle.layers.specs.Layer.{Sized, value_in}
 use Rattle.layers.specs.StartsLaws.{cells-few, goto-read}
-use Rattle.layers.specs.Step.{TableStep, GotosBy}
 use Rattle.layers.specs.StepLaws.{step-zero, step-more, step-done}
 use Rattle.layers.proofs.transition.gotos_from.Goals as goal
 

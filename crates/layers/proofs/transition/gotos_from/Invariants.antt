@@ -1,15 +1,8 @@
-use native.Mathlib.Omega.{arith}
-use mathlib.Core.Path.{◌≡◌}
-use Prim.Native.Nat.{◌+◌, ◌*◌, ◌-◌, ◌≤◌, ◌<◌}
-use lib.ListN.{get_or, length}
-use Rattle.book.specs.IndexLaws.{mul_small}
+use Prim.Native.Nat.{◌-◌, ◌≤◌}
 use Rattle.book.specs.Tables.{tables_of}
 use Rattle.walk.specs.Scale.{plain}
-use Rattle.layers.specs.CrossingLaws.{rows_fit}
 use Rattle.layers.specs.Layer.{Sized, value_in}
-use Rattle.layers.specs.StartsLaws.{cells-few, goto-read}
 use Rattle.layers.specs.Step.{TableStep, GotosBy}
-use Rattle.layers.specs.StepLaws.{step-zero, step-more, step-done}
 use Rattle.layers.proofs.transition.gotos_from.Given as goal
 
 abbrev pub invariant-loop-x : goal.invariant-loop-x

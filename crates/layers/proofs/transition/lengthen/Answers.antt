@@ -2,7 +2,7 @@
 use Prim.Native.Nat.{ℕ}
 use native.Mathlib.Omega.{arith}
 use lib.ListN.{length-replicate}
-use Rattle.walk.specs.LayersLaws.{longer-whole}
+use Rattle.walk.proofs.LayersLaws.{longer-whole}
 use Rattle.layers.specs.LengthenLaws.{lengthened-all}
 use Rattle.layers.proofs.transition.lengthen.Goals as goal
 

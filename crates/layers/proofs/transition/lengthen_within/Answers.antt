@@ -1,16 +1,12 @@
 -- `layers::transition::lengthen_within` meets its contract. Assumes nothing.
 use native.Mathlib.Omega.{arith}
-use Prim.Native.Nat.{◌-◌, ◌≤◌, ◌<◌}
-use lib.ListN.{get_or, replicate}
+use Prim.Native.Nat.{◌-◌, ◌<◌}
+use lib.ListN.{get_or}
 use Rattle.book.specs.Tables.{tables_of}
 use Rattle.walk.specs.Scale.{plain}
-use Rattle.walk.specs.Layers.{cut_at}
-use Rattle.layers.specs.Layer.{Sized, value_in}
 use Rattle.layers.specs.LayerLaws.{value_none}
 use Rattle.layers.specs.Crossing.{claim_in}
-use Rattle.layers.specs.States.{listed_in}
 use Rattle.layers.specs.StatesLaws.{listed-none}
-use Rattle.layers.specs.Step.{TableStep, Upto, LeavesState}
 use Rattle.layers.specs.StepLaws.{step-zero, step-more, step-done}
 use Rattle.layers.specs.LengthenLaws.{leaves-listed, lengthened}
 use Rattle.layers.proofs.transition.lengthen_within.Goals as goal

@@ -1,14 +1,11 @@
 -- `layers::transition::shifts_from` meets its contract. Assumes nothing.
 use native.Mathlib.Omega.{arith}
 use mathlib.Core.Path.{◌≡◌, ◌∙◌, sym}
-use Prim.Native.Nat.{◌-◌, ◌≤◌}
+use Prim.Native.Nat.{◌-◌}
 use lib.ListN.{get_or}
 use Rattle.book.specs.Tables.{tables_of}
-use Rattle.walk.specs.Scale.{plain}
 use Rattle.layers.specs.ActionLaws.{shift-below}
-use Rattle.layers.specs.Layer.{Sized, value_in}
 use Rattle.layers.specs.StartsLaws.{cells-few, action-read}
-use Rattle.layers.specs.Step.{TableStep, ShiftsBy}
 use Rattle.layers.specs.StepLaws.{step-zero, step-more, step-done}
 use Rattle.layers.proofs.transition.shifts_from.Goals as goal
 

@@ -1,9 +1,7 @@
 -- `lengths::ahead::ahead` meets its contract. Assumes nothing.
 use mathlib.Core.Path.{◌≡◌}
 use native.Mathlib.Omega.{arith}
-use Prim.Native.Nat.{◌+◌, ◌-◌, ◌≤◌}
-use Rattle.book.specs.Tables.{tables_of}
-use Rattle.lengths.specs.Lengths.{AheadMasks}
+use Prim.Native.Nat.{◌+◌, ◌-◌}
 use Rattle.lengths.specs.AheadLaws.{masks-last}
 use Rattle.lengths.proofs.ahead.ahead.Goals as goal
 

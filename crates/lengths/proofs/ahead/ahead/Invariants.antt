@@ -1,9 +1,6 @@
-use mathlib.Core.Path.{◌≡◌}
-use native.Mathlib.Omega.{arith}
-use Prim.Native.Nat.{◌+◌, ◌-◌, ◌≤◌}
+use Prim.Native.Nat.{◌-◌, ◌≤◌}
 use Rattle.book.specs.Tables.{tables_of}
 use Rattle.lengths.specs.Lengths.{AheadMasks}
-use Rattle.lengths.specs.AheadLaws.{masks-last}
 use Rattle.lengths.proofs.ahead.ahead.Given as goal
 
 abbrev pub invariant-loop-m : goal.invariant-loop-m

@@ -1,9 +1,7 @@
 -- `lengths::ahead::by_actions` meets its contract. Assumes nothing.
 use native.Mathlib.Nat.{le_antisymm}
 use native.Mathlib.Omega.{arith}
-use Prim.Native.Nat.{ℕ, ◌-◌, ◌≤◌, ◌<◌}
-use Rattle.book.specs.Tables.{tables_of}
-use Rattle.lengths.specs.Ahead.{Grown, NoneByAction}
+use Prim.Native.Nat.{◌-◌}
 use Rattle.lengths.specs.AheadLaws.{grown-same, grown-more}
 use Rattle.lengths.proofs.ahead.by_actions.Goals as goal
 

@@ -1,9 +1,6 @@
-use native.Mathlib.Nat.{le_antisymm}
-use native.Mathlib.Omega.{arith}
 use Prim.Native.Nat.{ℕ, ◌-◌, ◌≤◌, ◌<◌}
 use Rattle.book.specs.Tables.{tables_of}
 use Rattle.lengths.specs.Ahead.{Grown, NoneByAction}
-use Rattle.lengths.specs.AheadLaws.{grown-same, grown-more}
 use Rattle.lengths.proofs.ahead.by_actions.Given as goal
 
 abbrev pub invariant-loop-z : goal.invariant-loop-z

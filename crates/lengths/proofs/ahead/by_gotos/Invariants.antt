@@ -1,9 +1,6 @@
-use native.Mathlib.Nat.{le_antisymm}
-use native.Mathlib.Omega.{arith}
 use Prim.Native.Nat.{ℕ, ◌-◌, ◌≤◌, ◌<◌}
 use Rattle.book.specs.Tables.{tables_of}
 use Rattle.lengths.specs.Ahead.{Grown, NoneByGoto}
-use Rattle.lengths.specs.AheadLaws.{grown-same, grown-more}
 use Rattle.lengths.proofs.ahead.by_gotos.Given as goal
 
 abbrev pub invariant-loop-x : goal.invariant-loop-x

@@ -1,9 +1,7 @@
 -- `lengths::ahead::masks_before` meets its contract. Assumes nothing.
 use native.Mathlib.Nat.{le_antisymm}
 use native.Mathlib.Omega.{arith}
-use Prim.Native.Nat.{◌-◌, ◌≤◌, ◌<◌}
-use Rattle.book.specs.Tables.{tables_of}
-use Rattle.lengths.specs.Lengths.{AheadMasks}
+use Prim.Native.Nat.{◌-◌, ◌<◌}
 use Rattle.lengths.specs.AheadLaws.{masks-more}
 use Rattle.lengths.proofs.ahead.masks_before.Goals as goal
 

@@ -1,9 +1,6 @@
-use native.Mathlib.Nat.{le_antisymm}
-use native.Mathlib.Omega.{arith}
-use Prim.Native.Nat.{◌-◌, ◌≤◌, ◌<◌}
+use Prim.Native.Nat.{◌-◌, ◌≤◌}
 use Rattle.book.specs.Tables.{tables_of}
 use Rattle.lengths.specs.Lengths.{AheadMasks}
-use Rattle.lengths.specs.AheadLaws.{masks-more}
 use Rattle.lengths.proofs.ahead.masks_before.Given as goal
 
 abbrev pub invariant-loop-q : goal.invariant-loop-q

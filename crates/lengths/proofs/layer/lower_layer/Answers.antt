@@ -1,15 +1,8 @@
 -- `lengths::layer::lower_layer` meets its contract. Assumes nothing.
-use mathlib.Core.Path.{◌≡◌}
 use native.Mathlib.Omega.{arith}
-use Prim.Native.Nat.{◌-◌, ◌≤◌, ◌<◌}
-use lib.ListN.{length, get_or}
-use Rattle.book.specs.Tables.{tables_of}
-use Rattle.walk.specs.Scale.{plain}
-use Rattle.layers.specs.Layer.{entry_in, value_in}
-use Rattle.layers.specs.States.{listed_in}
-use Rattle.layers.specs.Step.{TableStep, Upto}
+use Prim.Native.Nat.{◌-◌, ◌<◌}
+use lib.ListN.{get_or}
 use Rattle.layers.specs.StepLaws.{step-zero, step-more, step-done}
-use Rattle.lengths.specs.Lengths.{LayerEnding, Turn}
 use Rattle.lengths.specs.LengthsLaws.{ending-listed}
 use Rattle.lengths.proofs.layer.lower_layer.Goals as goal
 

@@ -1,19 +1,13 @@
 -- `lengths::layer::lower_layers` meets its contract. Assumes nothing.
-use mathlib.Core.Path.{◌≡◌, sym, ◌∙◌}
+use mathlib.Core.Path.{sym, ◌∙◌}
 use native.Mathlib.Nat.{le_antisymm}
 use native.Mathlib.Numerals.{add-one}
 use native.Mathlib.Omega.{arith}
-use Prim.Native.Nat.{◌-◌, ◌≤◌}
-use lib.ListN.{length}
-use Rattle.book.specs.Tables.{tables_of}
+use Prim.Native.Nat.{◌-◌}
 use Rattle.walk.specs.Scale.{plain}
-use Rattle.layers.specs.Crossing.{claim_in}
-use Rattle.layers.specs.Layer.{Sized, entry_in, value_in}
 use Rattle.layers.specs.LayerLaws.{value-off}
 use Rattle.layers.specs.StatesLaws.{listed-empty}
-use Rattle.layers.specs.Step.{TableStep, Upto}
 use Rattle.layers.specs.StepLaws.{step-zero, step-more}
-use Rattle.lengths.specs.Starts.{LayerFrom, Ending}
 use Rattle.lengths.specs.StartsLaws.{from-here, from-longer}
 use Rattle.lengths.specs.LengthsLaws.{ending-layer, ending-last, ending-empty}
 use Rattle.lengths.proofs.layer.lower_layers.Goals as goal

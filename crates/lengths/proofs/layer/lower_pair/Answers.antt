@@ -1,7 +1,6 @@
 -- `lengths::layer::lower_pair` meets its contract. Assumes nothing.
 use mathlib.Core.Path.{refl}
 use native.Mathlib.Omega.{arith}
-use borrow.Author.Tests.{not-true, not-false}
 use Rattle.distances.specs.PassLaws.{merged-store}
 use Rattle.lengths.specs.LengthsLaws.{turn-none, turn-stored}
 use Rattle.lengths.proofs.layer.lower_pair.Goals as goal

@@ -1,15 +1,10 @@
 -- `lengths::layer::lower_state` meets its contract. Assumes nothing.
-use mathlib.Core.Path.{◌≡◌, sym}
+use mathlib.Core.Path.{sym}
 use native.Mathlib.Omega.{arith}
-use Prim.Native.Nat.{◌-◌, ◌≤◌}
-use lib.ListN.{length}
-use Rattle.book.specs.Tables.{tables_of}
+use Prim.Native.Nat.{◌-◌}
 use Rattle.walk.specs.Scale.{plain}
-use Rattle.layers.specs.Layer.{entry_in, value_in}
 use Rattle.layers.specs.LayerLaws.{value_read}
-use Rattle.layers.specs.Step.{TableStep, Upto}
 use Rattle.layers.specs.StepLaws.{step-zero, step-more, step-done}
-use Rattle.lengths.specs.Lengths.{LayerEnding, Turn}
 use Rattle.lengths.specs.LengthsLaws.{turn-read}
 use Rattle.lengths.proofs.layer.lower_state.Goals as goal
 

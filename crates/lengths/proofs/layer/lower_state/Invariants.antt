@@ -1,15 +1,11 @@
-use mathlib.Core.Path.{◌≡◌, sym}
-use native.Mathlib.Omega.{arith}
+use mathlib.Core.Path.{◌≡◌}
 use Prim.Native.Nat.{◌-◌, ◌≤◌}
 use lib.ListN.{length}
 use Rattle.book.specs.Tables.{tables_of}
 use Rattle.walk.specs.Scale.{plain}
 use Rattle.layers.specs.Layer.{entry_in, value_in}
-use Rattle.layers.specs.LayerLaws.{value_read}
 use Rattle.layers.specs.Step.{TableStep, Upto}
-use Rattle.layers.specs.StepLaws.{step-zero, step-more, step-done}
 use Rattle.lengths.specs.Lengths.{LayerEnding, Turn}
-use Rattle.lengths.specs.LengthsLaws.{turn-read}
 use Rattle.lengths.proofs.layer.lower_state.Given as goal
 
 abbrev pub invariant-loop-z : goal.invariant-loop-z

@@ -1,15 +1,7 @@
 -- `lengths::lengths::all_far_breaks` meets its contract. Assumes nothing.
-use mathlib.Core.Path.{◌≡◌}
 use native.Mathlib.Omega.{arith}
-use Prim.Native.Nat.{◌-◌, ◌≤◌}
-use lib.ListN.{length}
-use Rattle.book.specs.Tables.{tables_of}
-use Rattle.walk.specs.Scale.{plain}
-use Rattle.layers.specs.Crossing.{claim_in}
-use Rattle.layers.specs.Layer.{Scratch, entry_in}
-use Rattle.layers.specs.Step.{TableStep, Upto}
+use Prim.Native.Nat.{◌-◌}
 use Rattle.layers.specs.StepLaws.{step-zero, step-more, step-done}
-use Rattle.lengths.specs.Starts.{FarBreak}
 use Rattle.lengths.proofs.lengths.all_far_breaks.Goals as goal
 
 pub loop-x-init : goal.loop-x-init

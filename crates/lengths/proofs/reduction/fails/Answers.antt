@@ -9,16 +9,16 @@ use Rattle.lengths.proofs.reduction.fails.Goals as goal
 pub returns-then-len-m : goal.returns-then-len-m
 returns-then-len-m c =
     rw c.in-Goto.is record {
-  if-true = λ e. absurd (false≢true e);
-  if-false = λ e (l, k). c.if-len-m.true (c.production_length-len.ensures ∙ k);
-}
+      if-true = λ e. absurd (false≢true e);
+      if-false = λ e (l, k). c.if-len-m.true (c.production_length-len.ensures ∙ k);
+    }
 
 pub returns-else-len-m : goal.returns-else-len-m
 returns-else-len-m c =
     rw c.in-Goto.is record {
-  if-true = λ e. (sym c.left_side.ensures ∙ eqb-true _ _ e, sym c.production_length-len.ensures ∙ c.if-len-m.false);
-  if-false = λ e (l, k). eqb-false _ _ e (c.left_side.ensures ∙ l);
-}
+      if-true = λ e. (sym c.left_side.ensures ∙ eqb-true _ _ e, sym c.production_length-len.ensures ∙ c.if-len-m.false);
+      if-false = λ e (l, k). eqb-false _ _ e (c.left_side.ensures ∙ l);
+    }
 
 pub returns-in-States : goal.returns-in-States
 returns-in-States c =

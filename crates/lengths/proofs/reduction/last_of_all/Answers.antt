@@ -1,9 +1,7 @@
 -- `lengths::reduction::last_of_all` meets its contract. Assumes nothing.
 use native.Mathlib.Omega.{arith}
-use Prim.Native.Nat.{◌-◌, ◌≤◌}
+use Prim.Native.Nat.{◌-◌}
 use native.Mathlib.Nat.{le_antisymm}
-use Rattle.book.specs.Tables.{tables_of}
-use Rattle.lengths.specs.Lengths.{LastFailing}
 use Rattle.lengths.specs.AheadLaws.{last_more}
 use Rattle.lengths.proofs.reduction.last_of_all.Goals as goal
 

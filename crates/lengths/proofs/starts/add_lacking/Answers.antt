@@ -3,7 +3,6 @@ use mathlib.Core.Bool.{false≢true}
 use mathlib.Core.Path.{◌∙◌, sym}
 use native.Mathlib.Nat.{le_refl}
 use native.Mathlib.Omega.{arith}
-use borrow.Author.Tests.{not-true}
 use Rattle.layers.specs.StatesLaws.{listed-most, listed-off}
 use Rattle.lengths.specs.LackingLaws.{lacking-left-out, lacking-more}
 use Rattle.lengths.proofs.starts.add_lacking.Goals as goal

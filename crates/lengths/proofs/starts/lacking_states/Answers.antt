@@ -1,10 +1,7 @@
 -- `lengths::starts::lacking_states` meets its contract. Assumes nothing.
 use native.Mathlib.Nat.{le_antisymm}
 use native.Mathlib.Omega.{arith}
-use Prim.Native.Nat.{◌-◌, ◌≤◌}
-use Rattle.book.specs.Tables.{tables_of}
-use Rattle.walk.specs.Scale.{plain}
-use Rattle.lengths.specs.Lengths.{LackingOn}
+use Prim.Native.Nat.{◌-◌}
 use Rattle.lengths.specs.LackingLaws.{lacking-none}
 use Rattle.lengths.proofs.starts.lacking_states.Goals as goal
 

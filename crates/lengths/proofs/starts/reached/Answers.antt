@@ -2,8 +2,7 @@
 use mathlib.Core.Bool.{false≢true}
 use mathlib.Core.Path.{sym}
 use native.Mathlib.Omega.{arith}
-use Prim.Native.Nat.{ℕ, ◌-◌, ◌≤◌, ◌<◌}
-use Rattle.walk.specs.Scale.{plain, unreached}
+use Prim.Native.Nat.{◌-◌}
 use Rattle.layers.specs.Layer.{entry_in}
 use Rattle.positions.specs.PositionLaws.{each_more}
 use Rattle.lengths.proofs.starts.reached.Goals as goal

@@ -1,10 +1,6 @@
-use mathlib.Core.Bool.{false≢true}
-use mathlib.Core.Path.{sym}
-use native.Mathlib.Omega.{arith}
 use Prim.Native.Nat.{ℕ, ◌-◌, ◌≤◌, ◌<◌}
 use Rattle.walk.specs.Scale.{plain, unreached}
 use Rattle.layers.specs.Layer.{entry_in}
-use Rattle.positions.specs.PositionLaws.{each_more}
 use Rattle.lengths.proofs.starts.reached.Given as goal
 
 abbrev pub invariant-loop-a : goal.invariant-loop-a

@@ -1,9 +1,9 @@
 -- `lines::counts::row` meets its contract: one terminal after the other. Assumes nothing.
 use mathlib.Core.Bool.{cond, Bool}
-use mathlib.Core.Path.{◌≡◌, ◌∙◌, ap}
+use mathlib.Core.Path.{◌∙◌, ap}
 use native.Mathlib.Nat.{le_antisymm}
 use native.Mathlib.Omega.{arith}
-use Prim.Native.Nat.{◌-◌, ◌≤◌}
+use Prim.Native.Nat.{◌-◌}
 use Rattle.sets.specs.Set.{count_of}
 use Rattle.failing.specs.Tests.{fails_in}
 use Rattle.lines.specs.CountsLaws.{count-step, count_most, one-most}

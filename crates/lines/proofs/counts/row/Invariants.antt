@@ -1,11 +1,7 @@
-use mathlib.Core.Bool.{cond, Bool}
-use mathlib.Core.Path.{◌≡◌, ◌∙◌, ap}
-use native.Mathlib.Nat.{le_antisymm}
-use native.Mathlib.Omega.{arith}
+use mathlib.Core.Path.{◌≡◌}
 use Prim.Native.Nat.{◌-◌, ◌≤◌}
 use Rattle.sets.specs.Set.{count_of}
 use Rattle.failing.specs.Tests.{fails_in}
-use Rattle.lines.specs.CountsLaws.{count-step, count_most, one-most}
 use Rattle.lines.specs.Parts.{listed_in}
 use Rattle.lines.proofs.counts.row.Given as goal
 

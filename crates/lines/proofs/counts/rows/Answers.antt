@@ -1,6 +1,5 @@
 -- `lines::counts::rows` meets its contract: one state after the other. Assumes nothing.
-use mathlib.Core.Path.{◌≡◌}
-use Prim.Native.Nat.{◌-◌, ◌≤◌}
+use Prim.Native.Nat.{◌-◌}
 use native.Mathlib.Omega.{arith}
 use native.Mathlib.Nat.{le_antisymm}
 use Rattle.failing.specs.Tests.{fails_in}

@@ -1,11 +1,8 @@
 use mathlib.Core.Path.{◌≡◌}
 use Prim.Native.Nat.{◌-◌, ◌≤◌}
-use native.Mathlib.Omega.{arith}
-use native.Mathlib.Nat.{le_antisymm}
 use Rattle.failing.specs.Tests.{fails_in}
 use Rattle.lines.specs.Counts.{pairs_of}
 use Rattle.lines.specs.Parts.{listed_in}
-use Rattle.lines.specs.CountsLaws.{pairs-step, pairs-few, count_most}
 use Rattle.lines.proofs.counts.rows.Given as goal
 
 abbrev pub invariant-loop-q : goal.invariant-loop-q

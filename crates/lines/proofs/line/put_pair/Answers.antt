@@ -5,7 +5,7 @@ use native.Mathlib.Omega.{arith}
 use Rattle.book.specs.Tables.{tables_of}
 use Rattle.text.specs.DecimalLaws.{decimal-most}
 use Rattle.text.specs.PutLaws.{put_then}
-use Rattle.lines.specs.LineLaws.{answered-fits, answered-line}
+use Rattle.lines.proofs.LineLaws.{answered-fits, answered-line}
 use Rattle.lines.proofs.line.put_pair.Goals as goal
 
 pub answer-found-requires : goal.answer-found-requires

@@ -1,7 +1,6 @@
 -- `lines::state::put_action` meets its contract: only some actions have a line. Assumes nothing.
 use mathlib.Core.Path.{sym, ◌∙◌}
 use native.Mathlib.Omega.{arith}
-use borrow.Author.Tests.{not-true, not-false}
 use Rattle.lines.specs.StateLaws.{listed-decides, action-none, action-line}
 use Rattle.lines.proofs.state.put_action.Goals as goal
 

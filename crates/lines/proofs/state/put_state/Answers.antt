@@ -1,13 +1,10 @@
 -- `lines::state::put_state` meets its contract: one terminal after the other. Assumes nothing.
-use mathlib.Core.Path.{◌≡◌, sym, ◌∙◌}
-use Prim.Native.Nat.{◌-◌, ◌≤◌}
+use mathlib.Core.Path.{sym, ◌∙◌}
+use Prim.Native.Nat.{◌-◌}
 use native.Mathlib.Nat.{le_antisymm}
 use native.Mathlib.Omega.{arith}
-use lib.ListN.{length}
-use Rattle.book.specs.Order.{place_in}
-use Rattle.book.specs.Tables.{tables_of}
 use Rattle.layers.specs.CrossingLaws.{terminals-are}
-use Rattle.lines.specs.StateLaws.{Lines, lines_none, lines_more, lines-done}
+use Rattle.lines.specs.StateLaws.{lines_none, lines_more, lines-done}
 use borrow.Author.Rules.{rules}
 use Rattle.lines.proofs.state.put_state.Goals as goal
 

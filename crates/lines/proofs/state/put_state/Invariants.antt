@@ -1,12 +1,9 @@
-use mathlib.Core.Path.{◌≡◌, sym, ◌∙◌}
+use mathlib.Core.Path.{◌≡◌}
 use Prim.Native.Nat.{◌-◌, ◌≤◌}
-use native.Mathlib.Nat.{le_antisymm}
-use native.Mathlib.Omega.{arith}
 use lib.ListN.{length}
 use Rattle.book.specs.Order.{place_in}
 use Rattle.book.specs.Tables.{tables_of}
-use Rattle.layers.specs.CrossingLaws.{terminals-are}
-use Rattle.lines.specs.StateLaws.{Lines, lines_none, lines_more, lines-done}
+use Rattle.lines.specs.StateLaws.{Lines}
 use Rattle.lines.proofs.state.put_state.Given as goal
 
 abbrev pub invariant-loop-z : goal.invariant-loop-z

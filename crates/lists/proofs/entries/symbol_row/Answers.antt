@@ -1,10 +1,8 @@
 -- `lists::entries::symbol_row` meets its contract: the row is followed symbol by symbol. Assumes nothing.
 use mathlib.Core.Path.{sym, ◌∙◌}
 use native.Mathlib.Omega.{arith}
-use Prim.Native.Nat.{◌-◌, ◌≤◌}
-use Rattle.number.specs.Number.{number_at}
-use Rattle.book.specs.RowLaws.{Turns, turns-none, turns_more, turns-stop, turns-done}
-use Rattle.lists.specs.Entry.{symbol_fault}
+use Prim.Native.Nat.{◌-◌}
+use Rattle.book.specs.RowLaws.{turns-none, turns_more, turns-stop, turns-done}
 use Rattle.lists.proofs.entries.symbol_row.Goals as goal
 
 pub loop-i-init : goal.loop-i-init

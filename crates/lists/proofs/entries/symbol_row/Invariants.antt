@@ -1,8 +1,6 @@
-use mathlib.Core.Path.{sym, ◌∙◌}
-use native.Mathlib.Omega.{arith}
 use Prim.Native.Nat.{◌-◌, ◌≤◌}
 use Rattle.number.specs.Number.{number_at}
-use Rattle.book.specs.RowLaws.{Turns, turns-none, turns_more, turns-stop, turns-done}
+use Rattle.book.specs.RowLaws.{Turns}
 use Rattle.lists.specs.Entry.{symbol_fault}
 use Rattle.lists.proofs.entries.symbol_row.Given as goal
 

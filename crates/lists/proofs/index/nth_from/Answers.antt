@@ -1,7 +1,7 @@
 -- `lists::index::nth_from` meets its contract: the entries before the one of that index are passed. Assumes nothing.
 use mathlib.Core.Path.{sym, ◌∙◌}
 use Prim.Native.Nat.{◌-◌}
-use Rattle.lists.proofs.NthLaws.{Skipped, skipped-none, skipped-more, skipped-stop, skipped-done}
+use Rattle.lists.proofs.NthLaws.{skipped-none, skipped-more, skipped-stop, skipped-done}
 use Rattle.lists.proofs.index.nth_from.Goals as goal
 
 pub loop-i-init : goal.loop-i-init

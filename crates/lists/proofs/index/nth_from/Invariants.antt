@@ -1,6 +1,5 @@
-use mathlib.Core.Path.{sym, ◌∙◌}
 use Prim.Native.Nat.{◌-◌}
-use Rattle.lists.proofs.NthLaws.{Skipped, skipped-none, skipped-more, skipped-stop, skipped-done}
+use Rattle.lists.proofs.NthLaws.{Skipped}
 use Rattle.lists.proofs.index.nth_from.Given as goal
 
 abbrev pub invariant-loop-i : goal.invariant-loop-i

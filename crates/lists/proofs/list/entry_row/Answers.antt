@@ -1,8 +1,8 @@
 -- `lists::list::entry_row` meets its contract: the list is followed entry by entry. Assumes nothing.
 use mathlib.Core.Path.{sym, ◌∙◌}
 use native.Mathlib.Omega.{arith}
-use Prim.Native.Nat.{◌-◌, ◌≤◌}
-use Rattle.lists.proofs.ListLaws.{ListPassed, list-passed-none, list-passed-more, passed-stop, passed-done}
+use Prim.Native.Nat.{◌-◌}
+use Rattle.lists.proofs.ListLaws.{list-passed-none, list-passed-more, passed-stop, passed-done}
 use Rattle.lists.proofs.list.entry_row.Goals as goal
 
 pub loop-i-init : goal.loop-i-init

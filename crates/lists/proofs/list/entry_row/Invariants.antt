@@ -1,7 +1,5 @@
-use mathlib.Core.Path.{sym, ◌∙◌}
-use native.Mathlib.Omega.{arith}
 use Prim.Native.Nat.{◌-◌, ◌≤◌}
-use Rattle.lists.proofs.ListLaws.{ListPassed, list-passed-none, list-passed-more, passed-stop, passed-done}
+use Rattle.lists.proofs.ListLaws.{ListPassed}
 use Rattle.lists.proofs.list.entry_row.Given as goal
 
 abbrev pub invariant-loop-i : goal.invariant-loop-i

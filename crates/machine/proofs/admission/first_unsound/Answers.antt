@@ -1,10 +1,8 @@
 -- `machine::admission::first_unsound` meets its contract: those passed are sound. Assumes nothing.
-use mathlib.Core.Path.{◌≡◌, sym}
-use Prim.Native.Nat.{◌+◌, ◌-◌, ◌≤◌}
+use mathlib.Core.Path.{sym}
+use Prim.Native.Nat.{◌-◌}
 use native.Mathlib.Nat.{zero-add}
 use native.Mathlib.Omega.{arith}
-use lib.ListN.{length, drop}
-use Rattle.machine.specs.Run.{sound_prefix}
 use Rattle.machine.specs.AdmissionLaws.{sound_more, sound-zero, sound-high, sound_none}
 use Rattle.machine.proofs.admission.first_unsound.Goals as goal
 

@@ -1,10 +1,7 @@
-use mathlib.Core.Path.{◌≡◌, sym}
+use mathlib.Core.Path.{◌≡◌}
 use Prim.Native.Nat.{◌+◌, ◌-◌, ◌≤◌}
-use native.Mathlib.Nat.{zero-add}
-use native.Mathlib.Omega.{arith}
 use lib.ListN.{length, drop}
 use Rattle.machine.specs.Run.{sound_prefix}
-use Rattle.machine.specs.AdmissionLaws.{sound_more, sound-zero, sound-high, sound_none}
 use Rattle.machine.proofs.admission.first_unsound.Given as goal
 
 abbrev pub invariant-loop-i : goal.invariant-loop-i

@@ -1,9 +1,8 @@
 -- `machine::driver::clear` meets its contract: zero after zero. Assumes nothing.
-use mathlib.Core.Path.{◌≡◌}
 use Prim.Native.Nat.{◌-◌}
 use native.Mathlib.Omega.{arith}
-use lib.ListN.{length, length-set}
-use Rattle.machine.specs.StackLaws.{Cleared, cleared-none, cleared_more, cleared-done}
+use lib.ListN.{length-set}
+use Rattle.machine.specs.StackLaws.{cleared-none, cleared_more, cleared-done}
 use borrow.Author.Rules.{rules}
 use Rattle.machine.proofs.driver.clear.Goals as goal
 

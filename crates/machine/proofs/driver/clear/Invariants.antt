@@ -1,8 +1,7 @@
 use mathlib.Core.Path.{◌≡◌}
 use Prim.Native.Nat.{◌-◌}
-use native.Mathlib.Omega.{arith}
-use lib.ListN.{length, length-set}
-use Rattle.machine.specs.StackLaws.{Cleared, cleared-none, cleared_more, cleared-done}
+use lib.ListN.{length}
+use Rattle.machine.specs.StackLaws.{Cleared}
 use Rattle.machine.proofs.driver.clear.Given as goal
 
 abbrev pub invariant-loop-i : goal.invariant-loop-i

@@ -1,13 +1,11 @@
 -- `machine::driver::drive` meets its contract: symbol by symbol, the run goes on as from its start. Assumes nothing.
 use mathlib.Core.List.{[], ◌∷◌}
-use lib.ListN.{length-set, length}
 use Rattle.machine.specs.Run.{runs}
-use mathlib.Core.Path.{◌≡◌, ◌∙◌}
 use Prim.Native.Nat.{◌-◌}
 use native.Mathlib.Omega.{arith}
 use Rattle.book.specs.Tables.{tables_of}
 use Rattle.machine.specs.AdmissionLaws.{sound-at}
-use Rattle.machine.specs.DrivingLaws.{Driving, driving-none, driving-more, driving-ended, driving-done, ran-set, runs_by}
+use Rattle.machine.specs.DrivingLaws.{driving-none, driving-more, driving-ended, driving-done, ran-set, runs_by}
 use borrow.Author.Rules.{rules}
 use Rattle.machine.proofs.driver.drive.Goals as goal
 

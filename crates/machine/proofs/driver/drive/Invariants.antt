@@ -1,12 +1,9 @@
-use mathlib.Core.List.{[], ◌∷◌}
-use lib.ListN.{length-set, length}
+use lib.ListN.{length}
 use Rattle.machine.specs.Run.{runs}
-use mathlib.Core.Path.{◌≡◌, ◌∙◌}
+use mathlib.Core.Path.{◌≡◌}
 use Prim.Native.Nat.{◌-◌}
-use native.Mathlib.Omega.{arith}
 use Rattle.book.specs.Tables.{tables_of}
-use Rattle.machine.specs.AdmissionLaws.{sound-at}
-use Rattle.machine.specs.DrivingLaws.{Driving, driving-none, driving-more, driving-ended, driving-done, ran-set, runs_by}
+use Rattle.machine.specs.DrivingLaws.{Driving}
 use Rattle.machine.proofs.driver.drive.Given as goal
 
 abbrev pub invariant-loop-taken : goal.invariant-loop-taken

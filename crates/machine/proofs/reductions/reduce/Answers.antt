@@ -1,12 +1,7 @@
 -- `machine::reductions::reduce` meets its contract: turn by turn, what is left gives what is wanted. Assumes nothing.
-use mathlib.Core.Path.{◌≡◌}
-use Prim.Native.Nat.{◌≤◌}
 use native.Mathlib.Omega.{arith}
-use lib.ListN.{length, length-set}
-use Rattle.book.specs.Tables.{tables_of}
-use Rattle.machine.specs.Run.{reducing}
-use Rattle.machine.specs.Stack.{stack_of}
-use Rattle.machine.specs.ReducingLaws.{Reducing, reducing-none, reducing-more, reducing-ended, reducing-shift}
+use lib.ListN.{length-set}
+use Rattle.machine.specs.ReducingLaws.{reducing-none, reducing-more, reducing-ended, reducing-shift}
 use borrow.Author.Rules.{rules}
 use Rattle.machine.proofs.reductions.reduce.Goals as goal
 

@@ -1,11 +1,10 @@
 use mathlib.Core.Path.{◌≡◌}
 use Prim.Native.Nat.{◌≤◌}
-use native.Mathlib.Omega.{arith}
-use lib.ListN.{length, length-set}
+use lib.ListN.{length}
 use Rattle.book.specs.Tables.{tables_of}
 use Rattle.machine.specs.Run.{reducing}
 use Rattle.machine.specs.Stack.{stack_of}
-use Rattle.machine.specs.ReducingLaws.{Reducing, reducing-none, reducing-more, reducing-ended, reducing-shift}
+use Rattle.machine.specs.ReducingLaws.{Reducing}
 use Rattle.machine.proofs.reductions.reduce.Given as goal
 
 abbrev pub invariant-loop-e : goal.invariant-loop-e

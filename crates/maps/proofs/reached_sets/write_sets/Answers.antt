@@ -2,11 +2,10 @@
 use native.Mathlib.Omega.{arith}
 use native.Mathlib.Nat.{le_antisymm}
 use mathlib.Core.Path.{◌∙◌, ap}
-use Prim.Native.Nat.{◌-◌, ◌≤◌}
+use Prim.Native.Nat.{◌-◌}
 use lib.Count.{ones}
 use Rattle.sets.specs.SetLaws.{set-count}
-use Rattle.maps.specs.Reached.{mask_in, size_in}
-use Rattle.maps.specs.ReachedLaws.{SetsStored, stored-none, stored_more}
+use Rattle.maps.specs.ReachedLaws.{stored-none, stored_more}
 use Rattle.maps.proofs.reached_sets.write_sets.Goals as goal
 
 pub loop-q-init : goal.loop-q-init

@@ -1,7 +1,7 @@
 -- `maps::rows::copy_row` meets its contract. Assumes nothing.
-use Rattle.maps.specs.RowsLaws.{EntriesCopied, entries-copied-none, entries-copied-more}
+use Rattle.maps.specs.RowsLaws.{entries-copied-none, entries-copied-more}
 use native.Mathlib.Omega.{arith}
-use Prim.Native.Nat.{◌-◌, ◌≤◌}
+use Prim.Native.Nat.{◌-◌}
 use native.Mathlib.Nat.{le_antisymm}
 use Rattle.maps.proofs.rows.copy_row.Goals as goal
 

@@ -1,7 +1,5 @@
-use Rattle.maps.specs.RowsLaws.{EntriesCopied, entries-copied-none, entries-copied-more}
-use native.Mathlib.Omega.{arith}
+use Rattle.maps.specs.RowsLaws.{EntriesCopied}
 use Prim.Native.Nat.{◌-◌, ◌≤◌}
-use native.Mathlib.Nat.{le_antisymm}
 use Rattle.maps.proofs.rows.copy_row.Given as goal
 
 abbrev pub invariant-loop-i : goal.invariant-loop-i

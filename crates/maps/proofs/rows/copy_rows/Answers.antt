@@ -1,11 +1,10 @@
 -- `maps::rows::copy_rows` meets its contract: row after row. Assumes nothing.
 use native.Mathlib.Omega.{arith}
-use mathlib.Core.Path.{◌≡◌, ◌∙◌}
-use Prim.Native.Nat.{◌-◌, ◌≤◌}
+use mathlib.Core.Path.{◌∙◌}
+use Prim.Native.Nat.{◌-◌}
 use native.Mathlib.Nat.{le_antisymm}
-use lib.ListN.{length}
 use Rattle.book.specs.IndexLaws.{row_below}
-use Rattle.maps.specs.RowsLaws.{Rowed, rowed-none, rowed-more}
+use Rattle.maps.specs.RowsLaws.{rowed-none, rowed-more}
 use borrow.Author.Rules.{rules}
 use Rattle.maps.proofs.rows.copy_rows.Goals as goal
 
@@ -21,8 +20,7 @@ overflow_add-at c =
     omega (arith, c.requires, c.loop-q.invariant.2.place, row_below c.args.s c.args.t c.loop-q.q c.loop-q-test.true)
 
 pub loop-q-preserved : goal.loop-q-preserved
-loop-q-preserved c =
-    (
+loop-q-preserved c = (
   omega arith,
   c.copy_row.auto.to ∙ c.loop-q.invariant.1,
   rowed-more c.requires.0 c.requires.2 c.args.s c.loop-q.invariant.2 c.loop-q-test.true c.requires.1 c.requires.3 c.copy_row.ensures,

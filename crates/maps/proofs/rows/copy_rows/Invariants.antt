@@ -1,10 +1,7 @@
-use native.Mathlib.Omega.{arith}
-use mathlib.Core.Path.{◌≡◌, ◌∙◌}
+use mathlib.Core.Path.{◌≡◌}
 use Prim.Native.Nat.{◌-◌, ◌≤◌}
-use native.Mathlib.Nat.{le_antisymm}
 use lib.ListN.{length}
-use Rattle.book.specs.IndexLaws.{row_below}
-use Rattle.maps.specs.RowsLaws.{Rowed, rowed-none, rowed-more}
+use Rattle.maps.specs.RowsLaws.{Rowed}
 use Rattle.maps.proofs.rows.copy_rows.Given as goal
 
 abbrev pub invariant-loop-q : goal.invariant-loop-q

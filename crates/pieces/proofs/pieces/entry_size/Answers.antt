@@ -1,7 +1,6 @@
 -- `pieces::pieces::entry_size` meets its contract: by what reading the entry gave. Assumes nothing.
-use mathlib.Core.List.{[]}
-use mathlib.Core.Path.{◌≡◌, sym, ◌∙◌}
-use Rattle.items.specs.SpanLaws.{span_at, span_none}
+use mathlib.Core.Path.{sym, ◌∙◌}
+use Rattle.items.specs.SpanLaws.{span_none}
 use Rattle.sorting.specs.PutEntryLaws.{SpanFound, span-read, span-refused}
 use Rattle.pieces.proofs.pieces.entry_size.Goals as goal
 

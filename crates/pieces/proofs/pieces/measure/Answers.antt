@@ -1,10 +1,10 @@
 -- `pieces::pieces::measure` meets its contract: state by state, what is left of the room. Assumes nothing.
-use mathlib.Core.Path.{◌≡◌, refl, sym}
+use mathlib.Core.Path.{◌≡◌, sym}
 use native.Mathlib.Omega.{arith}
 use Prim.Native.Nat.{◌+◌, ◌-◌, ◌≤◌}
-use lib.ListN.{length, get_or}
+use lib.ListN.{get_or}
 use Rattle.sorting.specs.UpToLaws.{up-to-none, up-to-length, up-to-part}
-use Rattle.pieces.specs.Pieces.{piece_of, pieces_to, count_to}
+use Rattle.pieces.specs.Pieces.{piece_of}
 use Rattle.pieces.specs.PiecesLaws.{count-zero, count-more, count-few}
 use Rattle.pieces.proofs.pieces.measure.Goals as goal
 

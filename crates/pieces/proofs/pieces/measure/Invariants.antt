@@ -1,10 +1,7 @@
-use mathlib.Core.Path.{◌≡◌, refl, sym}
-use native.Mathlib.Omega.{arith}
+use mathlib.Core.Path.{◌≡◌}
 use Prim.Native.Nat.{◌+◌, ◌-◌, ◌≤◌}
-use lib.ListN.{length, get_or}
-use Rattle.sorting.specs.UpToLaws.{up-to-none, up-to-length, up-to-part}
-use Rattle.pieces.specs.Pieces.{piece_of, pieces_to, count_to}
-use Rattle.pieces.specs.PiecesLaws.{count-zero, count-more, count-few}
+use lib.ListN.{length}
+use Rattle.pieces.specs.Pieces.{pieces_to, count_to}
 use Rattle.pieces.proofs.pieces.measure.Given as goal
 
 abbrev pub invariant-loop-s : goal.invariant-loop-s

@@ -1,9 +1,8 @@
 -- `pieces::pieces::put_pieces` meets its contract: state by state. Assumes nothing.
 use mathlib.Core.Path.{◌≡◌}
 use native.Mathlib.Omega.{arith}
-use Prim.Native.Nat.{◌-◌, ◌≤◌}
-use Rattle.sorting.specs.UpToLaws.{PutUpTo, put-none, put-length, put-fits, put-state}
-use Rattle.pieces.specs.Pieces.{piece_of}
+use Prim.Native.Nat.{◌-◌}
+use Rattle.sorting.specs.UpToLaws.{put-none, put-fits, put-state}
 use Rattle.pieces.proofs.pieces.put_pieces.Goals as goal
 
 pub loop-s-init : goal.loop-s-init

@@ -1,7 +1,5 @@
-use mathlib.Core.Path.{◌≡◌}
-use native.Mathlib.Omega.{arith}
 use Prim.Native.Nat.{◌-◌, ◌≤◌}
-use Rattle.sorting.specs.UpToLaws.{PutUpTo, put-none, put-length, put-fits, put-state}
+use Rattle.sorting.specs.UpToLaws.{PutUpTo}
 use Rattle.pieces.specs.Pieces.{piece_of}
 use Rattle.pieces.proofs.pieces.put_pieces.Given as goal
 

@@ -1,5 +1,4 @@
 -- `pieces::pieces::second_is_shorter` meets its contract: a list without an entry first, then the symbols. Assumes nothing.
-use mathlib.Core.Path.{◌∙◌}
 use Rattle.pieces.specs.PiecesLaws.{second_none, first-none, both-compared}
 use Rattle.pieces.proofs.pieces.second_is_shorter.Goals as goal
 

@@ -1,10 +1,8 @@
 -- `positions::position::actions_pass` meets its contract. Assumes nothing.
 use native.Mathlib.Omega.{arith}
 use mathlib.Core.Path.{sym}
-use Prim.Native.Nat.{ℕ, ◌-◌, ◌≤◌, ◌<◌}
+use Prim.Native.Nat.{◌-◌}
 use mathlib.Core.Bool.{false≢true}
-use Rattle.book.specs.Tables.{tables_of}
-use Rattle.positions.specs.Position.{BarredAction}
 use Rattle.positions.specs.PositionLaws.{each_more}
 use Rattle.positions.proofs.position.actions_pass.Goals as goal
 

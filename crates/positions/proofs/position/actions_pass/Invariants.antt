@@ -1,10 +1,6 @@
-use native.Mathlib.Omega.{arith}
-use mathlib.Core.Path.{sym}
 use Prim.Native.Nat.{ℕ, ◌-◌, ◌≤◌, ◌<◌}
-use mathlib.Core.Bool.{false≢true}
 use Rattle.book.specs.Tables.{tables_of}
 use Rattle.positions.specs.Position.{BarredAction}
-use Rattle.positions.specs.PositionLaws.{each_more}
 use Rattle.positions.proofs.position.actions_pass.Given as goal
 
 abbrev pub invariant-loop-z : goal.invariant-loop-z

@@ -1,10 +1,8 @@
 -- `positions::position::gotos_pass` meets its contract. Assumes nothing.
 use native.Mathlib.Omega.{arith}
 use mathlib.Core.Path.{sym}
-use Prim.Native.Nat.{ℕ, ◌-◌, ◌≤◌, ◌<◌}
+use Prim.Native.Nat.{◌-◌}
 use mathlib.Core.Bool.{false≢true}
-use Rattle.book.specs.Tables.{tables_of}
-use Rattle.positions.specs.Position.{BarredGoto}
 use Rattle.positions.specs.PositionLaws.{each_more}
 use Rattle.positions.proofs.position.gotos_pass.Goals as goal
 

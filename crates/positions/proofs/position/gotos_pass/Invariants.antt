@@ -1,10 +1,6 @@
-use native.Mathlib.Omega.{arith}
-use mathlib.Core.Path.{sym}
 use Prim.Native.Nat.{ℕ, ◌-◌, ◌≤◌, ◌<◌}
-use mathlib.Core.Bool.{false≢true}
 use Rattle.book.specs.Tables.{tables_of}
 use Rattle.positions.specs.Position.{BarredGoto}
-use Rattle.positions.specs.PositionLaws.{each_more}
 use Rattle.positions.proofs.position.gotos_pass.Given as goal
 
 abbrev pub invariant-loop-x : goal.invariant-loop-x

@@ -2,7 +2,6 @@
 use native.Mathlib.Omega.{arith}
 use Rattle.positions.specs.PositionLaws.{states-few, positions-kept, positions-set}
 use Rattle.layers.specs.CrossingLaws.{states-are}
-use borrow.Author.Tests.{not-true}
 use Rattle.positions.proofs.position.mark.Goals as goal
 
 pub returns-then-q-states : goal.returns-then-q-states

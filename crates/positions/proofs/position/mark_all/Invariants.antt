@@ -1,9 +1,6 @@
-use native.Mathlib.Omega.{arith}
-use native.Mathlib.Nat.{le_antisymm}
 use Prim.Native.Nat.{◌≤◌}
 use Rattle.book.specs.Tables.{tables_of}
 use Rattle.positions.specs.Position.{Positions}
-use Rattle.positions.specs.PositionLaws.{pred-more, positions-begin}
 use Rattle.positions.proofs.position.mark_all.Given as goal
 
 abbrev pub invariant-loop-k : goal.invariant-loop-k

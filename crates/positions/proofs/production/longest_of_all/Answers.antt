@@ -1,10 +1,8 @@
 -- `positions::production::longest_of_all` meets its contract. Assumes nothing.
 use native.Mathlib.Omega.{arith}
-use Prim.Native.Nat.{◌-◌, ◌≤◌}
+use Prim.Native.Nat.{◌-◌}
 use native.Mathlib.Nat.{le_antisymm}
-use Rattle.book.specs.Tables.{tables_of}
 use Rattle.layers.specs.CrossingLaws.{length-below}
-use Rattle.positions.specs.Position.{LongestOf}
 use Rattle.positions.specs.PositionLaws.{longest-of-more}
 use Rattle.positions.proofs.production.longest_of_all.Goals as goal
 

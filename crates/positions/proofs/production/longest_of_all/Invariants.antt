@@ -1,10 +1,6 @@
-use native.Mathlib.Omega.{arith}
 use Prim.Native.Nat.{◌-◌, ◌≤◌}
-use native.Mathlib.Nat.{le_antisymm}
 use Rattle.book.specs.Tables.{tables_of}
-use Rattle.layers.specs.CrossingLaws.{length-below}
 use Rattle.positions.specs.Position.{LongestOf}
-use Rattle.positions.specs.PositionLaws.{longest-of-more}
 use Rattle.positions.proofs.production.longest_of_all.Given as goal
 
 abbrev pub invariant-loop-p : goal.invariant-loop-p

@@ -2,10 +2,7 @@
 use native.Mathlib.Omega.{arith}
 use mathlib.Core.Bool.{false≢true}
 use mathlib.Core.Path.{sym}
-use Prim.Native.Nat.{ℕ, ◌-◌, ◌≤◌, ◌<◌}
-use Rattle.book.specs.Tables.{tables_of}
-use Rattle.layers.specs.Crossing.{claim_in}
-use Rattle.roads.specs.Roads.{Unclaimed}
+use Prim.Native.Nat.{◌-◌}
 use borrow.Author.Count.{below_more}
 use Rattle.roads.proofs.leaving.gotos_leave.Goals as goal
 

@@ -1,11 +1,7 @@
-use native.Mathlib.Omega.{arith}
-use mathlib.Core.Bool.{false≢true}
-use mathlib.Core.Path.{sym}
 use Prim.Native.Nat.{ℕ, ◌-◌, ◌≤◌, ◌<◌}
 use Rattle.book.specs.Tables.{tables_of}
 use Rattle.layers.specs.Crossing.{claim_in}
 use Rattle.roads.specs.Roads.{Unclaimed}
-use borrow.Author.Count.{below_more}
 use Rattle.roads.proofs.leaving.gotos_leave.Given as goal
 
 abbrev pub invariant-loop-x : goal.invariant-loop-x

@@ -1,7 +1,5 @@
-use native.Mathlib.Omega.{arith}
 use Prim.Native.Nat.{ℕ, ◌+◌, ◌-◌, ◌≤◌, ◌<◌}
 use lib.ListN.{get_or}
-use borrow.Author.Count.{below_more}
 use Rattle.roads.proofs.leaving.least_in.Given as goal
 
 abbrev pub invariant-loop-j : goal.invariant-loop-j

@@ -1,10 +1,8 @@
 -- `roads::leaving::live_rows` meets its contract. Assumes nothing.
 use native.Mathlib.Omega.{arith}
-use Prim.Native.Nat.{ℕ, ◌-◌, ◌≤◌}
+use Prim.Native.Nat.{ℕ, ◌-◌}
 use lib.ListN.{length-replicate}
-use Rattle.book.specs.Tables.{tables_of}
-use Rattle.layers.specs.Crossing.{claim_in}
-use Rattle.roads.specs.LeavingLaws.{FlagsTo, flags-more, flags-usable}
+use Rattle.roads.specs.LeavingLaws.{flags-more, flags-usable}
 use Rattle.roads.proofs.leaving.live_rows.Goals as goal
 
 pub loop-k-init : goal.loop-k-init

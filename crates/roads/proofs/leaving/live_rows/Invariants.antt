@@ -1,9 +1,7 @@
-use native.Mathlib.Omega.{arith}
-use Prim.Native.Nat.{ℕ, ◌-◌, ◌≤◌}
-use lib.ListN.{length-replicate}
+use Prim.Native.Nat.{◌-◌, ◌≤◌}
 use Rattle.book.specs.Tables.{tables_of}
 use Rattle.layers.specs.Crossing.{claim_in}
-use Rattle.roads.specs.LeavingLaws.{FlagsTo, flags-more, flags-usable}
+use Rattle.roads.specs.LeavingLaws.{FlagsTo}
 use Rattle.roads.proofs.leaving.live_rows.Given as goal
 
 abbrev pub invariant-loop-k : goal.invariant-loop-k

@@ -1,9 +1,7 @@
 -- `roads::pair::as_layer` meets its contract. Assumes nothing.
 use native.Mathlib.Omega.{arith}
-use Prim.Native.Nat.{◌-◌, ◌≤◌}
-use lib.ListN.{length}
+use Prim.Native.Nat.{◌-◌}
 use Rattle.book.specs.IndexLaws.{Digits, index-split}
-use Rattle.roads.specs.Pairs.{PairsIn}
 use Rattle.roads.specs.PairLaws.{pairs-more}
 use Rattle.roads.proofs.pair.as_layer.Goals as goal
 

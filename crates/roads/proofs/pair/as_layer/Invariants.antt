@@ -1,9 +1,6 @@
-use native.Mathlib.Omega.{arith}
 use Prim.Native.Nat.{◌-◌, ◌≤◌}
 use lib.ListN.{length}
-use Rattle.book.specs.IndexLaws.{Digits, index-split}
 use Rattle.roads.specs.Pairs.{PairsIn}
-use Rattle.roads.specs.PairLaws.{pairs-more}
 use Rattle.roads.proofs.pair.as_layer.Given as goal
 
 abbrev pub invariant-loop-k : goal.invariant-loop-k

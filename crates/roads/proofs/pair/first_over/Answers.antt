@@ -1,12 +1,8 @@
 -- `roads::pair::first_over` meets its contract. Assumes nothing.
 use native.Mathlib.Omega.{arith}
 use mathlib.Core.Logic.{inl, inr}
-use Prim.Native.Nat.{ℕ, ◌-◌, ◌≤◌}
-use lib.ListN.{length}
-use Rattle.walk.specs.Scale.{plain}
-use Rattle.layers.specs.Layer.{value_in}
+use Prim.Native.Nat.{◌-◌}
 use Rattle.roads.specs.LowestLaws.{lowest-more}
-use Rattle.roads.specs.Pairs.{OverLayer}
 use Rattle.book.specs.IndexLaws.{index-split}
 use Rattle.roads.proofs.pair.first_over.Goals as goal
 

@@ -1,12 +1,8 @@
-use native.Mathlib.Omega.{arith}
-use mathlib.Core.Logic.{inl, inr}
 use Prim.Native.Nat.{ℕ, ◌-◌, ◌≤◌}
 use lib.ListN.{length}
 use Rattle.walk.specs.Scale.{plain}
 use Rattle.layers.specs.Layer.{value_in}
-use Rattle.roads.specs.LowestLaws.{lowest-more}
 use Rattle.roads.specs.Pairs.{OverLayer}
-use Rattle.book.specs.IndexLaws.{index-split}
 use Rattle.roads.proofs.pair.first_over.Given as goal
 
 abbrev pub invariant-loop-k : goal.invariant-loop-k

@@ -1,15 +1,11 @@
-use native.Mathlib.Omega.{arith}
-use Prim.Native.Nat.{◌-◌, ◌≤◌, ◌<◌}
-use lib.ListN.{get_or}
+use Prim.Native.Nat.{◌-◌, ◌≤◌}
 use Rattle.book.specs.Tables.{tables_of}
 use Rattle.walk.specs.Scale.{plain}
 use Rattle.layers.specs.Crossing.{claim_in}
 use Rattle.layers.specs.Layer.{value_in}
 use Rattle.layers.specs.States.{listed_in}
 use Rattle.roads.specs.Lowest.{Lowered, Among}
-use Rattle.roads.specs.LowestLaws.{lowered-zero, lowered-more, lowered-done}
 use Rattle.roads.specs.Roads.{ExceededAt}
-use Rattle.roads.specs.RoadLaws.{layer-listed}
 use Rattle.roads.proofs.reduction.compare_layer.Given as goal
 
 abbrev pub invariant-loop-i : goal.invariant-loop-i

@@ -1,14 +1,9 @@
 -- `roads::reduction::compare_state` meets its contract. Assumes nothing.
 use native.Mathlib.Omega.{arith}
-use Prim.Native.Nat.{◌-◌, ◌≤◌}
-use Rattle.book.specs.Tables.{tables_of}
+use Prim.Native.Nat.{◌-◌}
 use Rattle.walk.specs.Scale.{plain}
-use Rattle.layers.specs.Crossing.{claim_in}
-use Rattle.layers.specs.Layer.{value_in}
 use Rattle.layers.specs.LayerLaws.{value_read}
-use Rattle.roads.specs.Lowest.{Lowered, Among}
 use Rattle.roads.specs.LowestLaws.{lowered-zero, lowered-more, lowered-done}
-use Rattle.roads.specs.Roads.{ExceededAt}
 use Rattle.roads.proofs.reduction.compare_state.Goals as goal
 
 pub loop-z-init : goal.loop-z-init

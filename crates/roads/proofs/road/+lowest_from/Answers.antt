@@ -1,6 +1,6 @@
 -- The cycle of calls of `roads::road::lowest_from`: each call has one layer less before it. Assumes nothing.
 use native.Mathlib.Omega.{arith}
-use Prim.Native.Nat.{ℕ, ◌+◌, ◌-◌, ◌*◌, ◌≤◌, ◌<◌}
+use Prim.Native.Nat.{◌+◌, ◌-◌, ◌*◌, ◌≤◌}
 use lib.ListN.{length}
 use Rattle.positions.specs.PositionLaws.{position-row, position-row-size}
 use Rattle.roads.specs.RoadLaws.{roads-last, roads-later, least-longer}

@@ -1,12 +1,7 @@
 -- `roads::road::lowest_of_state` meets its contract. Assumes nothing.
 use native.Mathlib.Omega.{arith}
-use Prim.Native.Nat.{◌-◌, ◌≤◌}
-use Rattle.book.specs.Tables.{tables_of}
-use Rattle.layers.specs.Crossing.{claim_in}
-use Rattle.layers.specs.Layer.{Scratch}
-use Rattle.roads.specs.Lowest.{Lowered, Among}
+use Prim.Native.Nat.{◌-◌}
 use Rattle.roads.specs.LowestLaws.{lowered-zero, lowered-more, lowered-done}
-use Rattle.roads.specs.Roads.{ByRoads}
 use Rattle.roads.specs.RoadLaws.{least-begun}
 use Rattle.roads.proofs.road.lowest_of_state.Goals as goal
 

@@ -1,12 +1,9 @@
-use native.Mathlib.Omega.{arith}
 use Prim.Native.Nat.{◌-◌, ◌≤◌}
 use Rattle.book.specs.Tables.{tables_of}
 use Rattle.layers.specs.Crossing.{claim_in}
 use Rattle.layers.specs.Layer.{Scratch}
 use Rattle.roads.specs.Lowest.{Lowered, Among}
-use Rattle.roads.specs.LowestLaws.{lowered-zero, lowered-more, lowered-done}
 use Rattle.roads.specs.Roads.{ByRoads}
-use Rattle.roads.specs.RoadLaws.{least-begun}
 use Rattle.roads.proofs.road.lowest_of_state.Given as goal
 
 abbrev pub invariant-loop-a : goal.invariant-loop-a

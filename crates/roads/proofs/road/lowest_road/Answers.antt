@@ -1,14 +1,9 @@
 -- `roads::road::lowest_road` meets its contract. Assumes nothing.
 use native.Mathlib.Omega.{arith}
-use Prim.Native.Nat.{ℕ, ◌-◌, ◌≤◌}
+use Prim.Native.Nat.{ℕ, ◌-◌}
 use lib.ListN.{length-replicate}
-use Rattle.book.specs.Tables.{tables_of}
 use Rattle.walk.specs.Scale.{plain, unreached}
-use Rattle.layers.specs.Crossing.{claim_in}
-use Rattle.layers.specs.Layer.{Scratch}
-use Rattle.roads.specs.Lowest.{Lowered, Among}
 use Rattle.roads.specs.LowestLaws.{lowered-zero, lowered-more, lowered-done}
-use Rattle.roads.specs.Roads.{ByRoads}
 use Rattle.roads.specs.RoadLaws.{roads-whole}
 use Rattle.roads.proofs.road.lowest_road.Goals as goal
 

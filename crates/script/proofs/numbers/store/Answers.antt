@@ -1,7 +1,6 @@
 -- `script::numbers::store` is safe and ends. The loop's invariant: the place is within the array. Assumes nothing.
-use Prim.Native.Nat.{◌-◌, ◌≤◌}
-use lib.ListN.{length, length-set}
-use mathlib.Core.Path.{◌≡◌}
+use Prim.Native.Nat.{◌-◌}
+use lib.ListN.{length-set}
 use native.Mathlib.Omega.{arith}
 use Rattle.script.proofs.numbers.store.Goals as goal
 

@@ -1,6 +1,4 @@
 use Prim.Native.Nat.{◌-◌, ◌≤◌}
-use native.Mathlib.Omega.{arith}
-use mathlib.Core.Logic.{⊎_elim}
 use Rattle.script.proofs.rows.equal.Given as goal
 
 abbrev pub invariant-loop-j : goal.invariant-loop-j

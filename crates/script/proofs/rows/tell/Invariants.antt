@@ -1,6 +1,4 @@
 use Prim.Native.Nat.{◌-◌, ◌≤◌}
-use native.Mathlib.Omega.{arith}
-use mathlib.Core.Logic.{⊎_elim}
 use Rattle.script.proofs.rows.tell.Given as goal
 
 abbrev pub invariant-loop-k : goal.invariant-loop-k

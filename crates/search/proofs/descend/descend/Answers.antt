@@ -1,16 +1,8 @@
 -- `search::descend::descend` meets its contract. Assumes nothing.
 use native.Mathlib.Omega.{arith}
 use mathlib.Core.Path.{refl}
-use Prim.Native.Nat.{ℕ, ◌-◌, ◌≤◌, ◌<◌}
-use lib.ListN.{length, get_or}
-use Rattle.book.specs.Tables.{tables_of}
-use Rattle.walk.specs.Ends.{end_cost}
-use Rattle.walk.specs.Scale.{plain}
-use Rattle.layers.specs.Crossing.{claim_in}
-use Rattle.layers.specs.Layer.{entry_in, layer_in}
-use Rattle.waiting.specs.Waiting.{event_in}
-use Rattle.search.specs.Settle.{SearchRoom}
-use Rattle.search.specs.Search.{Descent}
+use Prim.Native.Nat.{◌-◌, ◌<◌}
+use lib.ListN.{get_or}
 use Rattle.search.specs.SearchLaws.{descent-more, descent-hit, descent-done}
 use Rattle.search.proofs.descend.descend.Goals as goal
 

@@ -1,7 +1,5 @@
-use native.Mathlib.Omega.{arith}
-use mathlib.Core.Path.{refl}
-use Prim.Native.Nat.{ℕ, ◌-◌, ◌≤◌, ◌<◌}
-use lib.ListN.{length, get_or}
+use Prim.Native.Nat.{ℕ, ◌-◌, ◌≤◌}
+use lib.ListN.{length}
 use Rattle.book.specs.Tables.{tables_of}
 use Rattle.walk.specs.Ends.{end_cost}
 use Rattle.walk.specs.Scale.{plain}
@@ -10,7 +8,6 @@ use Rattle.layers.specs.Layer.{entry_in, layer_in}
 use Rattle.waiting.specs.Waiting.{event_in}
 use Rattle.search.specs.Settle.{SearchRoom}
 use Rattle.search.specs.Search.{Descent}
-use Rattle.search.specs.SearchLaws.{descent-more, descent-hit, descent-done}
 use Rattle.search.proofs.descend.descend.Given as goal
 
 abbrev pub invariant-loop-h : goal.invariant-loop-h

@@ -1,13 +1,10 @@
 -- `search::ends::cost_to_go` meets its contract: one layer after the other. Assumes nothing.
 use native.Mathlib.Omega.{arith}
 use native.Mathlib.Nat.{le_antisymm}
-use mathlib.Core.List.{reverse}
-use mathlib.Core.Path.{◌≡◌, refl}
-use Prim.Native.Nat.{◌-◌, ◌≤◌}
-use lib.ListN.{take}
-use Rattle.book.specs.Tables.{tables_of}
+use mathlib.Core.Path.{refl}
+use Prim.Native.Nat.{◌-◌}
 use Rattle.walk.specs.Ends.{to_go}
-use Rattle.layers.specs.Layer.{entry_in, layer_in}
+use Rattle.layers.specs.Layer.{entry_in}
 use Rattle.search.specs.EndsLaws.{to-go-more}
 use Rattle.search.proofs.ends.cost_to_go.Goals as goal
 

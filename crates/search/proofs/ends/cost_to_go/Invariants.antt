@@ -1,13 +1,10 @@
-use native.Mathlib.Omega.{arith}
-use native.Mathlib.Nat.{le_antisymm}
 use mathlib.Core.List.{reverse}
-use mathlib.Core.Path.{◌≡◌, refl}
+use mathlib.Core.Path.{◌≡◌}
 use Prim.Native.Nat.{◌-◌, ◌≤◌}
 use lib.ListN.{take}
 use Rattle.book.specs.Tables.{tables_of}
 use Rattle.walk.specs.Ends.{to_go}
 use Rattle.layers.specs.Layer.{entry_in, layer_in}
-use Rattle.search.specs.EndsLaws.{to-go-more}
 use Rattle.search.proofs.ends.cost_to_go.Given as goal
 
 abbrev pub invariant-loop-m : goal.invariant-loop-m

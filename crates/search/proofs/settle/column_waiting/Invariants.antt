@@ -1,14 +1,7 @@
-use native.Mathlib.Nat.{le_refl}
-use native.Mathlib.Omega.{arith}
-use mathlib.Core.Logic.{inl, inr}
-use mathlib.Core.Path.{◌≡◌}
 use Prim.Native.Nat.{ℕ, ◌+◌, ◌-◌, ◌*◌, ◌≤◌, ◌<◌}
 use lib.ListN.{get_or}
 use Rattle.walk.specs.Scale.{plain}
-use Rattle.positions.specs.PositionLaws.{each_more}
 use Rattle.waiting.specs.Waiting.{event_in}
-use Rattle.waiting.specs.EventLaws.{row-dark, row_read}
-use Rattle.search.specs.SettleLaws.{column-none}
 use Rattle.search.proofs.settle.column_waiting.Given as goal
 
 abbrev pub invariant-loop-c : goal.invariant-loop-c

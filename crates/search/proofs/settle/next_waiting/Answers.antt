@@ -1,9 +1,6 @@
 -- `search::settle::next_waiting` meets its contract. Assumes nothing.
 use native.Mathlib.Omega.{arith}
-use Prim.Native.Nat.{◌-◌, ◌*◌, ◌≤◌}
-use Rattle.walk.specs.Scale.{plain}
-use Rattle.waiting.specs.Waiting.{event_in}
-use Rattle.search.specs.Settle.{NoneBelow}
+use Prim.Native.Nat.{◌-◌}
 use Rattle.search.specs.SettleLaws.{done-most-less, none_row, next_here, next-none}
 use Rattle.search.proofs.settle.next_waiting.Goals as goal
 

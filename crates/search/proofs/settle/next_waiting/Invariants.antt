@@ -1,9 +1,7 @@
-use native.Mathlib.Omega.{arith}
 use Prim.Native.Nat.{◌-◌, ◌*◌, ◌≤◌}
 use Rattle.walk.specs.Scale.{plain}
 use Rattle.waiting.specs.Waiting.{event_in}
 use Rattle.search.specs.Settle.{NoneBelow}
-use Rattle.search.specs.SettleLaws.{done-most-less, none_row, next_here, next-none}
 use Rattle.search.proofs.settle.next_waiting.Given as goal
 
 abbrev pub invariant-loop-x : goal.invariant-loop-x

@@ -1,21 +1,13 @@
-use native.Mathlib.Omega.{arith}
 use mathlib.Core.List.{reverse}
-use mathlib.Core.Path.{◌≡◌, ◌∙◌}
-use Prim.Native.Nat.{ℕ, ◌*◌, ◌<◌}
-use lib.ListN.{get_or, take, length-set}
+use lib.ListN.{take}
 use Rattle.book.specs.Tables.{tables_of}
-use Rattle.walk.specs.Scale.{plain, unreached}
+use Rattle.walk.specs.Scale.{plain}
 use Rattle.walk.specs.Ends.{end_cost}
-use Rattle.walk.specs.FillLaws.{filled-size}
 use Rattle.layers.specs.Crossing.{claim_in}
-use Rattle.layers.specs.CrossingLaws.{terminals-are}
 use Rattle.layers.specs.Layer.{entry_in, layer_in}
 use Rattle.waiting.specs.Waiting.{event_in}
-use Rattle.waiting.specs.EventLaws.{event-off, row-shut, rows-off}
-use Rattle.waiting.specs.ExpandLaws.{holds-narrow, nonterminals-are}
 use Rattle.search.specs.Settle.{SearchRoom, NextWaiting, Follows}
 use Rattle.layers.specs.Total.{total}
-use Rattle.search.specs.SettleLaws.{done-most-less, done_none, follows-none, follows-more, follows-less, settled-some, settled-none, settled-off}
 use Rattle.search.proofs.settle.settle.Given as goal
 
 abbrev pub invariant-loop-i : goal.invariant-loop-i

@@ -1,7 +1,7 @@
 -- `sentences::all_pairs::sentences_in` meets its contract: refused, or done. Assumes nothing.
 use Rattle.book.specs.CallLaws.{steps-none}
 use Rattle.book.proofs.TablesLaws.{accepted-book}
-use Rattle.sentences.specs.PartsLaws.{sentences-admitted, all_told}
+use Rattle.sentences.proofs.PartsLaws.{sentences-admitted, all_told}
 use mathlib.Core.Path.{sym, ◌∙◌}
 use Rattle.sentences.proofs.all_pairs.sentences_in.Goals as goal
 

@@ -2,7 +2,7 @@
 use Rattle.book.specs.Tables.{rank_of}
 use Rattle.forms.proofs.FormsLaws.{plain-holds, plain-tables}
 use Rattle.layers.specs.CrossingLaws.{terminals-are}
-use Rattle.sentences.specs.PartsLaws.{all-rank}
+use Rattle.sentences.proofs.PartsLaws.{all-rank}
 use lib.Seq.{length-take-le}
 use mathlib.Core.Path.{sym}
 use native.Mathlib.Omega.{arith}

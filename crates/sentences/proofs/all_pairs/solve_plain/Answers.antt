@@ -1,5 +1,5 @@
 -- `sentences::all_pairs::solve_plain` meets its contract: one table serves all pairs, and is cleared. Assumes nothing.
-use Rattle.sentences.specs.PartsLaws.{pairs-all}
+use Rattle.sentences.proofs.PartsLaws.{pairs-all}
 use Rattle.work.specs.WorkLaws.{work-cleared}
 use native.Mathlib.Nat.{le_trans}
 use Rattle.sentences.proofs.all_pairs.solve_plain.Goals as goal

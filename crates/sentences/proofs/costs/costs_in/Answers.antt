@@ -1,5 +1,5 @@
 -- `sentences::costs::costs_in` meets its contract: the distances from the start, or the breaks. Assumes nothing.
-use Rattle.sentences.specs.PartsLaws.{start-costs, break-costs}
+use Rattle.sentences.proofs.PartsLaws.{start-costs, break-costs}
 use Rattle.sentences.proofs.costs.costs_in.Goals as goal
 
 pub returns-then-breaks : goal.returns-then-breaks

@@ -3,7 +3,7 @@ use Rattle.book.specs.Order.{place_in}
 use Rattle.book.specs.Tables.{tables_of}
 use Rattle.finder.specs.FittingLaws.{answered-fits}
 use Rattle.layers.specs.CrossingLaws.{terminals-are}
-use Rattle.sentences.specs.PartsLaws.{pair-none, pair_found}
+use Rattle.sentences.proofs.PartsLaws.{pair-none, pair_found}
 use native.Mathlib.Omega.{arith}
 use Rattle.sentences.proofs.pairs.put_pair.Goals as goal
 

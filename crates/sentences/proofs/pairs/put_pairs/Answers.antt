@@ -1,12 +1,9 @@
 -- `sentences::pairs::put_pairs` meets its contract: one pair after the other. Assumes nothing.
-use Prim.Native.Nat.{◌-◌, ◌≤◌}
-use Rattle.book.specs.Order.{place_in}
+use Prim.Native.Nat.{◌-◌}
 use Rattle.book.specs.RangeLaws.{actions-few}
-use Rattle.book.specs.Tables.{tables_of}
 use Rattle.layers.specs.Layer.{entry_in}
-use Rattle.sentences.specs.PartsLaws.{pair-at, Pairs, pairs-none, pairs-more}
-use lib.ListN.{length}
-use mathlib.Core.Path.{◌≡◌, ◌∙◌}
+use Rattle.sentences.proofs.PartsLaws.{pair-at, pairs-none, pairs-more}
+use mathlib.Core.Path.{◌∙◌}
 use native.Mathlib.Nat.{le_antisymm}
 use native.Mathlib.Omega.{arith}
 use borrow.Author.Rules.{rules}

@@ -1,13 +1,9 @@
 use Prim.Native.Nat.{◌-◌, ◌≤◌}
 use Rattle.book.specs.Order.{place_in}
-use Rattle.book.specs.RangeLaws.{actions-few}
 use Rattle.book.specs.Tables.{tables_of}
-use Rattle.layers.specs.Layer.{entry_in}
-use Rattle.sentences.specs.PartsLaws.{pair-at, Pairs, pairs-none, pairs-more}
+use Rattle.sentences.proofs.PartsLaws.{Pairs}
 use lib.ListN.{length}
-use mathlib.Core.Path.{◌≡◌, ◌∙◌}
-use native.Mathlib.Nat.{le_antisymm}
-use native.Mathlib.Omega.{arith}
+use mathlib.Core.Path.{◌≡◌}
 use Rattle.sentences.proofs.pairs.put_pairs.Given as goal
 
 abbrev pub invariant-loop-i : goal.invariant-loop-i

@@ -1,10 +1,8 @@
 -- `sorting::putting::copy_bytes` meets its contract: byte by byte. Assumes nothing.
 use mathlib.Core.Path.{◌≡◌, refl}
 use native.Mathlib.Omega.{arith}
-use Prim.Native.Nat.{◌-◌, ◌≤◌}
-use lib.ListN.{length, length-set}
-use lib.Seq.{sets}
-use Rattle.lists.specs.Entry.{part}
+use Prim.Native.Nat.{◌-◌}
+use lib.ListN.{length-set}
 use Rattle.sorting.specs.PutLaws.{put_byte}
 use Rattle.sorting.proofs.putting.copy_bytes.Goals as goal
 

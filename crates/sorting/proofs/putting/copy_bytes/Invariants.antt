@@ -1,10 +1,8 @@
-use mathlib.Core.Path.{◌≡◌, refl}
-use native.Mathlib.Omega.{arith}
+use mathlib.Core.Path.{◌≡◌}
 use Prim.Native.Nat.{◌-◌, ◌≤◌}
-use lib.ListN.{length, length-set}
+use lib.ListN.{length}
 use lib.Seq.{sets}
 use Rattle.lists.specs.Entry.{part}
-use Rattle.sorting.specs.PutLaws.{put_byte}
 use Rattle.sorting.proofs.putting.copy_bytes.Given as goal
 
 abbrev pub invariant-loop-i : goal.invariant-loop-i

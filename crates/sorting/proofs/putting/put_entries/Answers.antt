@@ -1,10 +1,8 @@
 -- `sorting::putting::put_entries` meets its contract: state by state. Assumes nothing.
 use mathlib.Core.Path.{◌≡◌}
 use native.Mathlib.Omega.{arith}
-use Prim.Native.Nat.{◌-◌, ◌≤◌}
-use lib.ListN.{get_or}
-use Rattle.items.specs.SpanLaws.{span_at}
-use Rattle.sorting.specs.UpToLaws.{PutUpTo, put-none, put-length, put-fits, put-state}
+use Prim.Native.Nat.{◌-◌}
+use Rattle.sorting.specs.UpToLaws.{put-none, put-fits, put-state}
 use Rattle.sorting.proofs.putting.put_entries.Goals as goal
 
 pub loop-s-init : goal.loop-s-init

@@ -1,9 +1,7 @@
-use mathlib.Core.Path.{◌≡◌}
-use native.Mathlib.Omega.{arith}
 use Prim.Native.Nat.{◌-◌, ◌≤◌}
 use lib.ListN.{get_or}
 use Rattle.items.specs.SpanLaws.{span_at}
-use Rattle.sorting.specs.UpToLaws.{PutUpTo, put-none, put-length, put-fits, put-state}
+use Rattle.sorting.specs.UpToLaws.{PutUpTo}
 use Rattle.sorting.proofs.putting.put_entries.Given as goal
 
 abbrev pub invariant-loop-s : goal.invariant-loop-s

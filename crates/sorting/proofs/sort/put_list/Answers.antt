@@ -1,6 +1,6 @@
 -- `sorting::sort::put_list` meets its contract: the count, then the entries. Assumes nothing.
 use native.Mathlib.Omega.{arith}
-use Rattle.sorting.specs.SortLaws.{list-short, list_put}
+use Rattle.sorting.proofs.SortLaws.{list-short, list_put}
 use Rattle.sorting.specs.UpTo.{spans_to}
 use Rattle.sorting.proofs.sort.put_list.Goals as goal
 

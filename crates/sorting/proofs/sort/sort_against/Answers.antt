@@ -1,7 +1,7 @@
 -- `sorting::sort::sort_against` meets its contract: the list next. Assumes nothing.
 use mathlib.Core.Path.{sym, ◌∙◌}
 use Rattle.course.specs.AcceptedLaws.{list-accepted}
-use Rattle.sorting.specs.SortLaws.{sorts-unlisted, sorts-listed}
+use Rattle.sorting.proofs.SortLaws.{sorts-unlisted, sorts-listed}
 use Rattle.sorting.proofs.sort.sort_against.Goals as goal
 
 pub sort_from-requires : goal.sort_from-requires

@@ -1,6 +1,6 @@
 -- `sorting::sort::sort_list` meets its contract: the book first. Assumes nothing.
 use mathlib.Core.Path.{sym, ◌∙◌}
-use Rattle.sorting.specs.SortLaws.{sorts-unbooked}
+use Rattle.sorting.proofs.SortLaws.{sorts-unbooked}
 use Rattle.sorting.proofs.sort.sort_list.Goals as goal
 
 pub sort_against-requires : goal.sort_against-requires

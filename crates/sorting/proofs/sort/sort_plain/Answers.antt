@@ -2,7 +2,7 @@
 use native.Mathlib.Omega.{arith}
 use Rattle.number.specs.NumberLaws.{Bytes}
 use Rattle.course.specs.AcceptedLaws.{accepted-standing}
-use Rattle.sorting.specs.SortLaws.{accepted-fault, accepted-whole, accepted-sorted}
+use Rattle.sorting.proofs.SortLaws.{accepted-fault, accepted-whole, accepted-sorted}
 use borrow.Author.Rules.{rules}
 use Rattle.sorting.proofs.sort.sort_plain.Goals as goal
 

@@ -1,9 +1,9 @@
 -- `text::pieces::put` meets its contract: byte by byte. Assumes nothing.
 use mathlib.Core.Path.{refl}
-use Prim.Native.Nat.{◌-◌, ◌≤◌}
+use Prim.Native.Nat.{◌-◌}
 use native.Mathlib.Nat.{le_antisymm}
 use native.Mathlib.Omega.{arith}
-use Rattle.text.specs.PutLaws.{WordCopied, word-copied-none, word-copied-more, copied-done}
+use Rattle.text.specs.PutLaws.{word-copied-none, word-copied-more, copied-done}
 use Rattle.text.proofs.pieces.put.Goals as goal
 
 pub loop-i-init : goal.loop-i-init

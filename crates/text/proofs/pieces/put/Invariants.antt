@@ -1,8 +1,5 @@
-use mathlib.Core.Path.{refl}
 use Prim.Native.Nat.{◌-◌, ◌≤◌}
-use native.Mathlib.Nat.{le_antisymm}
-use native.Mathlib.Omega.{arith}
-use Rattle.text.specs.PutLaws.{WordCopied, word-copied-none, word-copied-more, copied-done}
+use Rattle.text.specs.PutLaws.{WordCopied}
 use Rattle.text.proofs.pieces.put.Given as goal
 
 abbrev pub invariant-loop-i : goal.invariant-loop-i

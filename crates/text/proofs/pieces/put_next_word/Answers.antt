@@ -1,6 +1,4 @@
 -- `text::pieces::put_next_word` meets its contract: a byte, and a word after it. Assumes nothing.
-use mathlib.Core.Path.{◌∙◌}
-use lib.ListN.{length-set}
 use Rattle.text.specs.PutLaws.{put-after}
 use Rattle.text.proofs.pieces.put_next_word.Goals as goal
 

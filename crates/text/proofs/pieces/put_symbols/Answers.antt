@@ -1,9 +1,9 @@
 -- `text::pieces::put_symbols` meets its contract: one symbol after the other. Assumes nothing.
-use Prim.Native.Nat.{◌-◌, ◌≤◌, ◌<◌}
+use Prim.Native.Nat.{◌-◌, ◌<◌}
 use native.Mathlib.Nat.{le_antisymm}
 use native.Mathlib.Omega.{arith}
 use Rattle.text.specs.DecimalLaws.{decimal-byte}
-use Rattle.text.specs.TextLaws.{Spelt, spelt-none, spelt-more}
+use Rattle.text.specs.TextLaws.{spelt-none, spelt-more}
 use lib.ListN.{get_or}
 use Rattle.text.proofs.pieces.put_symbols.Goals as goal
 

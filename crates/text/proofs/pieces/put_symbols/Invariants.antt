@@ -1,9 +1,5 @@
-use Prim.Native.Nat.{◌-◌, ◌≤◌, ◌<◌}
-use native.Mathlib.Nat.{le_antisymm}
-use native.Mathlib.Omega.{arith}
-use Rattle.text.specs.DecimalLaws.{decimal-byte}
-use Rattle.text.specs.TextLaws.{Spelt, spelt-none, spelt-more}
-use lib.ListN.{get_or}
+use Prim.Native.Nat.{◌-◌, ◌≤◌}
+use Rattle.text.specs.TextLaws.{Spelt}
 use Rattle.text.proofs.pieces.put_symbols.Given as goal
 
 abbrev pub invariant-loop-i : goal.invariant-loop-i

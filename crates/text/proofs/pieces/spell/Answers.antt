@@ -1,7 +1,6 @@
 -- `text::pieces::spell` meets its contract: digit by digit, from the last. Assumes nothing.
-use Prim.Native.Nat.{◌≤◌}
 use native.Mathlib.Omega.{arith}
-use Rattle.text.specs.DecimalLaws.{Spelling, spelling-none, spelling-more, spelling-last, spelling-end}
+use Rattle.text.specs.DecimalLaws.{spelling-none, spelling-more, spelling-last, spelling-end}
 use borrow.Author.Rules.{rules}
 use Rattle.text.proofs.pieces.spell.Goals as goal
 

@@ -1,6 +1,5 @@
 use Prim.Native.Nat.{◌≤◌}
-use native.Mathlib.Omega.{arith}
-use Rattle.text.specs.DecimalLaws.{Spelling, spelling-none, spelling-more, spelling-last, spelling-end}
+use Rattle.text.specs.DecimalLaws.{Spelling}
 use Rattle.text.proofs.pieces.spell.Given as goal
 
 abbrev pub invariant-loop-i : goal.invariant-loop-i

@@ -1,7 +1,7 @@
 -- The cycle of calls of `waiting::expansion::expand_after`: each call has one layer less that there can be. Assumes nothing.
 use native.Mathlib.Omega.{arith}
 use mathlib.Core.Path.{◌∙◌, sym}
-use Prim.Native.Nat.{ℕ, ◌+◌, ◌-◌, ◌*◌, ◌≤◌, ◌<◌}
+use Prim.Native.Nat.{◌+◌, ◌-◌, ◌*◌, ◌≤◌}
 use lib.ListN.{length}
 use Rattle.walk.specs.Scale.{plain}
 use Rattle.layers.specs.LayerLaws.{value-off}

@@ -1,7 +1,7 @@
 -- `waiting::expansion::expand` meets its contract. Assumes nothing.
 use native.Mathlib.Omega.{arith}
 use Rattle.layers.specs.CrossingLaws.{terminal}
-use Rattle.walk.specs.LayersLaws.{layer-where}
+use Rattle.walk.proofs.LayersLaws.{layer-where}
 use Rattle.waiting.specs.Pending.{Pending}
 use Rattle.waiting.specs.ExpandLaws.{holds-narrow, layer-begun, step-first, expands-more, expands-skipped, expands-all}
 use Rattle.waiting.proofs.expansion.expand.Goals as goal

@@ -1,15 +1,10 @@
 -- `waiting::expansion::pop_layer` meets its contract. Assumes nothing.
 use native.Mathlib.Omega.{arith}
-use Prim.Native.Nat.{◌-◌, ◌≤◌, ◌<◌}
-use lib.ListN.{length, get_or}
-use mathlib.Core.Path.{◌≡◌}
+use Prim.Native.Nat.{◌-◌, ◌<◌}
+use lib.ListN.{get_or}
 use Rattle.book.specs.Tables.{tables_of}
 use Rattle.walk.specs.Scale.{plain}
-use Rattle.layers.specs.Layer.{value_in}
-use Rattle.layers.specs.States.{listed_in}
-use Rattle.layers.specs.Step.{TableStep, Upto}
 use Rattle.layers.specs.StepLaws.{step-zero, step-more, step-done}
-use Rattle.waiting.specs.Waiting.{event_in, ReducesState}
 use Rattle.waiting.specs.ExpandLaws.{expand-listed}
 use Rattle.waiting.proofs.expansion.pop_layer.Goals as goal
 

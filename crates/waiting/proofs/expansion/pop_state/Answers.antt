@@ -1,16 +1,9 @@
 -- `waiting::expansion::pop_state` meets its contract. Assumes nothing.
 use native.Mathlib.Omega.{arith}
-use Prim.Native.Nat.{◌-◌, ◌≤◌}
-use lib.ListN.{length}
-use mathlib.Core.Path.{◌≡◌}
-use Rattle.book.specs.Tables.{tables_of}
+use Prim.Native.Nat.{◌-◌}
 use Rattle.walk.specs.Scale.{plain}
-use Rattle.walk.specs.Sum.{plus}
-use Rattle.layers.specs.Layer.{value_in}
 use Rattle.layers.specs.LayerLaws.{value_read}
-use Rattle.layers.specs.Step.{TableStep, Upto}
 use Rattle.layers.specs.StepLaws.{step-zero, step-more, step-done}
-use Rattle.waiting.specs.Waiting.{event_in, Reduces}
 use Rattle.waiting.proofs.expansion.pop_state.Goals as goal
 
 pub loop-c-init : goal.loop-c-init

@@ -1,12 +1,6 @@
 -- `within::reaching::comes` meets its contract: reduction by reduction, it goes on as from the start. Assumes nothing.
-use mathlib.Core.List.{[], ◌∷◌}
-use mathlib.Core.Path.{◌≡◌}
-use Prim.Native.Nat.{ℕ}
-use lib.ListN.{length, length-set}
-use types.Run.{miss}
-use Rattle.book.specs.Tables.{tables_of}
-use Rattle.machine.specs.declared.Seen.TheVariants.{Reduce}
-use Rattle.within.specs.ReachingLaws.{Coming, coming-none, coming-now, coming-spent, coming-deep, coming-other, coming-more}
+use lib.ListN.{length-set}
+use Rattle.within.proofs.ReachingLaws.{coming-none, coming-now, coming-spent, coming-deep, coming-other, coming-more}
 use borrow.Author.Rules.{rules}
 use Rattle.within.proofs.reaching.comes.Goals as goal
 

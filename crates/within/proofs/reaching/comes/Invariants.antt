@@ -1,11 +1,7 @@
-use mathlib.Core.List.{[], ◌∷◌}
 use mathlib.Core.Path.{◌≡◌}
-use Prim.Native.Nat.{ℕ}
-use lib.ListN.{length, length-set}
-use types.Run.{miss}
+use lib.ListN.{length}
 use Rattle.book.specs.Tables.{tables_of}
-use Rattle.machine.specs.declared.Seen.TheVariants.{Reduce}
-use Rattle.within.specs.ReachingLaws.{Coming, coming-none, coming-now, coming-spent, coming-deep, coming-other, coming-more}
+use Rattle.within.proofs.ReachingLaws.{Coming}
 use Rattle.within.proofs.reaching.comes.Given as goal
 
 abbrev pub invariant-loop-stack : goal.invariant-loop-stack

@@ -1,14 +1,11 @@
 -- `within::reaching::reaches` meets its contract: symbol by symbol, it goes on as from the start. Assumes nothing.
-use mathlib.Core.Path.{◌≡◌, ◌∙◌}
+use mathlib.Core.Path.{◌∙◌}
 use Prim.Native.Nat.{◌-◌}
-use native.Mathlib.Omega.{arith}
-use lib.ListN.{length, length-set}
-use Rattle.book.specs.Tables.{tables_of}
+use lib.ListN.{length-set}
 use Rattle.machine.specs.AdmissionLaws.{sound-at}
-use Rattle.machine.specs.DrivingLaws.{Driving, driving-none, driving-more, driving-halt}
-use Rattle.within.specs.Within.{brings}
-use Rattle.within.specs.WithinLaws.{brings-by}
-use Rattle.within.specs.ReachingLaws.{bringing-done}
+use Rattle.machine.specs.DrivingLaws.{driving-none, driving-more, driving-halt}
+use Rattle.within.proofs.WithinLaws.{brings-by}
+use Rattle.within.proofs.ReachingLaws.{bringing-done}
 use borrow.Author.Rules.{rules}
 use Rattle.within.proofs.reaching.reaches.Goals as goal
 

@@ -1,13 +1,9 @@
-use mathlib.Core.Path.{◌≡◌, ◌∙◌}
+use mathlib.Core.Path.{◌≡◌}
 use Prim.Native.Nat.{◌-◌}
-use native.Mathlib.Omega.{arith}
-use lib.ListN.{length, length-set}
+use lib.ListN.{length}
 use Rattle.book.specs.Tables.{tables_of}
-use Rattle.machine.specs.AdmissionLaws.{sound-at}
-use Rattle.machine.specs.DrivingLaws.{Driving, driving-none, driving-more, driving-halt}
+use Rattle.machine.specs.DrivingLaws.{Driving}
 use Rattle.within.specs.Within.{brings}
-use Rattle.within.specs.WithinLaws.{brings-by}
-use Rattle.within.specs.ReachingLaws.{bringing-done}
 use Rattle.within.proofs.reaching.reaches.Given as goal
 
 abbrev pub invariant-loop-taken : goal.invariant-loop-taken

@@ -16,7 +16,7 @@ use Rattle.walk.specs.Scale.{plain, long, unreached}
 use Rattle.walk.specs.Sum.{plus}
 use Rattle.walk.specs.Claims.{Claims, Claimed, Least}
 use Rattle.walk.specs.Layers.{Longer, add-shift, add-goto, Layer, Hereditary}
-use Rattle.walk.specs.LayersLaws.{layer-here, layer-elsewhere, layer-where, where-longer}
+use Rattle.walk.proofs.LayersLaws.{layer-here, layer-elsewhere, layer-where, where-longer}
 use Rattle.certificate.specs.Certificate.{Certificate, crossing_at, crossing_count, pair_at, claim_count, certificate_in, Road, order, AtCrossing, AtPair, Exceeds, is_right, Fails, Judged}
 use Rattle.certificate.specs.declared.Condition.{Condition}
 use Rattle.certificate.specs.declared.Condition.TheVariants.{Range, Roads, Start, Transitions, Short, Sentences}
@@ -27,7 +27,7 @@ use Rattle.certificate.specs.Search.{Before}
 use Rattle.certificate.specs.SearchLaws.{lowest-none, lowest-join, least-below, lowest-if, certificate-judged}
 use Rattle.certificate.specs.Sentences.{Spelled, spelled, refused}
 use Rattle.certificate.specs.Checks.{sentences_of, Checks, refuses, judges}
-use Rattle.certificate.specs.ChecksLaws.{spelled-admitted, accepted-range, checks-one}
+use Rattle.certificate.proofs.ChecksLaws.{spelled-admitted, accepted-range, checks-one}
 use Rattle.certificate.specs.Verdict.{by_shift, by_goto, lengthened, layered, by_reduction, road_cost, lowest_crossing, lowest_pair, lowest_fault, verdict, answer, checking}
 
 -- ---- the crossings and the pairs

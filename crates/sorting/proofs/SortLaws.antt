@@ -29,9 +29,9 @@ use Rattle.course.specs.Turns.{EntriesPassed, Clean}
 use Rattle.course.specs.declared.Faults.TheVariants.{None, First}
 use Rattle.course.specs.declared.Judgement.{Judgement}
 use Rattle.sorting.specs.FittedLaws.{fitted_short, fitted-put}
-use Rattle.sorting.specs.OrderLaws.{clean-below, by-state-rearranged}
+use Rattle.sorting.proofs.OrderLaws.{clean-below, by-state-rearranged}
 use Rattle.sorting.specs.PutLaws.{put_both}
-use Rattle.sorting.specs.PutStatesLaws.{spans-by-state}
+use Rattle.sorting.proofs.PutStatesLaws.{spans-by-state}
 use Rattle.sorting.specs.Sorting.{by_state, sorted_bytes, sorted_by, sorted_in, sorts}
 use Rattle.sorting.specs.UpTo.{spans_to}
 use Rattle.sorting.specs.declared.Sorted.{Sorted}

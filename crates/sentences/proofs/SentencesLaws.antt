@@ -7,10 +7,10 @@ use Rattle.book.specs.IndexLaws.{index_below, index-split}
 use Rattle.book.specs.Tables.{Tables, tables_of}
 use Rattle.book.specs.declared.Sizes.{Sizes}
 use Rattle.walk.specs.Answer.{Outcome, Unreached, WordsOf, AnswerAs}
-use Rattle.walk.specs.AnswerLaws.{best-exact, best-one}
+use Rattle.walk.proofs.AnswerLaws.{best-exact, best-one}
 use Rattle.walk.specs.Map.{IsMap}
 use Rattle.walk.specs.Scale.{plain}
-use Rattle.sentences.specs.PartsLaws.{cell-mapped}
+use Rattle.sentences.proofs.PartsLaws.{cell-mapped}
 use Rattle.sentences.specs.Sentences.{cell_of, Answers}
 
 -- the answer that stands for a pair is the one that is right for it, which `find` or `find_break` answers

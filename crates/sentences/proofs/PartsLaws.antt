@@ -20,12 +20,13 @@ use Rattle.book.specs.declared.Written.TheVariants.{Count}
 use Rattle.machine.specs.Machine.{Terminals}
 use Rattle.machine.specs.MachineLaws.{terminal-at}
 use Rattle.walk.specs.Answer.{Outcome, Unreached, Long, Sentence, Best, WordsOf, AnswerAs}
-use Rattle.walk.specs.AnswerLaws.{mapped, best-exact, best_none, best-long, words-terminals, answer-rank}
+use Rattle.walk.specs.AnswerLaws.{mapped}
+use Rattle.walk.proofs.AnswerLaws.{best-exact, best_none, best-long, words-terminals, answer-rank}
 use Rattle.walk.specs.Cost.{Exact}
-use Rattle.walk.specs.CostLaws.{exact_one}
+use Rattle.walk.proofs.CostLaws.{exact_one}
 use Rattle.walk.specs.OrderLaws.{RankAlike}
 use Rattle.walk.specs.Scale.{plain, long, unreached}
-use Rattle.walk.specs.ShortestLaws.{cost-length}
+use Rattle.walk.proofs.ShortestLaws.{cost-length}
 use Rattle.distances.specs.Distances.{StartTable}
 use Rattle.lengths.specs.Lengths.{BreakTable}
 use Rattle.finder.specs.Finder.{Answered, found, sentence_of}

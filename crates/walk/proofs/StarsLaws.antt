@@ -25,11 +25,11 @@ use Rattle.book.specs.declared.Sizes.{Sizes}
 use Rattle.machine.specs.Machine.{Move, accepts, fails, breaks, shifts, reduces, next, shift, reduce, Steps, done, then, Terminals, none, more, Reaches}
 use Rattle.machine.specs.MachineLaws.{clash}
 use Rattle.walk.specs.Walk.{Walk, here, shifted, crossed}
-use Rattle.walk.specs.WalkLaws.{reaches-walk}
+use Rattle.walk.proofs.WalkLaws.{reaches-walk}
 use Rattle.walk.specs.Scale.{plain}
 use Rattle.walk.specs.Answer.{Unreached, Long, Sentence, Answer}
 use Rattle.walk.specs.Shortest.{Shorter, Shortest, Before, differs, agrees}
-use Rattle.walk.specs.ShortestLaws.{answer-shortest}
+use Rattle.walk.proofs.ShortestLaws.{answer-shortest}
 use Rattle.walk.specs.Stars.{Line, number, pair, bracket, double, double_ranked, stars, LineHolds, All}
 
 both : (a b : Bool) → (a && b) ≡ true → (a ≡ true) × (b ≡ true)

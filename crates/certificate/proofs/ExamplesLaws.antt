@@ -13,12 +13,12 @@ use Rattle.lists.specs.Entry.{outside}
 use Rattle.walk.specs.Sum.{plus}
 use Rattle.certificate.specs.Certificate.{certificate_in}
 use Rattle.certificate.specs.Checks.{certificate_refusals, sentences_of, Checks, Mapped, Certified}
-use Rattle.certificate.specs.ChecksLaws.{accepted-mapped, accepted-certified}
+use Rattle.certificate.proofs.ChecksLaws.{accepted-mapped, accepted-certified}
 use Rattle.certificate.specs.Examples.{Case, cases, spinning, deep, apart, single}
 use Rattle.certificate.specs.Search.{told}
 use Rattle.certificate.specs.Sentences.{sentence_at, sentences_at, sentences_in}
 use Rattle.certificate.specs.Verdict.{lengthened, layered, road_cost, lowest_crossing, lowest_pair, verdict, checking}
-use Rattle.certificate.specs.VerdictLaws.{checks-iff}
+use Rattle.certificate.proofs.VerdictLaws.{checks-iff}
 use Rattle.certificate.specs.declared.Verdict.{Verdict}
 use Rattle.certificate.specs.declared.Verdict.TheVariants.{Accepted}
 

@@ -8,7 +8,7 @@ use Rattle.machine.specs.Stack.{stack_of, StackIn, StackFrom, Looked}
 use Rattle.machine.specs.StackLaws.{stack-length, stack_top, stack_push, push}
 use Rattle.machine.specs.DrivingLaws.{Driving, driving-all}
 use Rattle.within.specs.Within.{on_top, comes, brings, reaches_within}
-use Rattle.within.specs.WithinLaws.{onward, comes-now, comes-none, comes-more}
+use Rattle.within.proofs.WithinLaws.{onward, comes-now, comes-none, comes-more}
 use Rattle.machine.specs.declared.Seen.{Seen}
 use Rattle.machine.specs.declared.Seen.TheVariants.{Accept, Error, Broken, Shift, Reduce}
 

@@ -13,7 +13,7 @@ use Rattle.course.specs.Course.{in_state}
 use Rattle.course.specs.Turns.{PlaceOf, none, one, Places}
 use Rattle.sorting.specs.Sorting.{by_state}
 use Rattle.sorting.specs.UpTo.{spans_to}
-use Rattle.sorting.specs.UpToLaws.{up-to-written}
+use Rattle.sorting.proofs.UpToLaws.{up-to-written}
 
 module _ {t : ℕ} (bytes : List ℕ) (b : Bytes bytes) (few : t ≤ 32) where
   pub place-span : {place : ℕ} {xs : List Item} → PlaceOf t bytes place xs → span_at bytes place ≡ bytes_of (numbers_of xs)

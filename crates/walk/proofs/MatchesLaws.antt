@@ -3,7 +3,7 @@ use Rattle.std.specs.Prelude.{List, ◌↔◌, ◌≡◌, refl, ℕ, ◌≤◌}
 use Rattle.std.proofs.Common.{inl, inr, ⊎_elim, subst, le_trans, arith}
 use Rattle.walk.specs.Scale.{Scale, unreached, cap}
 use Rattle.walk.specs.Cost.{cost, Attained, Exact}
-use Rattle.walk.specs.CostLaws.{attained-map}
+use Rattle.walk.proofs.CostLaws.{attained-map}
 use Rattle.walk.specs.Claims.{Least, Matches}
 
 module _ {σ : Scale} {K : ℕ → Type 0} {P : List ℕ → Type 0} where

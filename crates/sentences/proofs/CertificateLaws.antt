@@ -5,7 +5,7 @@ use Rattle.book.specs.IndexLaws.{index-split}
 use Rattle.book.specs.Tables.{Tables}
 use Rattle.walk.specs.Answer.{Outcome, Unreached, Long, Sentence, Best, WordsOf}
 use Rattle.walk.specs.Scale.{plain}
-use Rattle.walk.specs.ShortestLaws.{cost-length}
+use Rattle.walk.proofs.ShortestLaws.{cost-length}
 use Rattle.certificate.specs.Written.{written_sentences}
 use Rattle.finder.specs.Finder.{sentence_of}
 use Rattle.sentences.specs.Sentences.{cell_of, sentence_bytes, Answers}

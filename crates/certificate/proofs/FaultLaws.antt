@@ -13,7 +13,7 @@ use Rattle.book.specs.Tables.{tables_of}
 use Rattle.book.proofs.TablesLaws.{in-range}
 use Rattle.book.specs.declared.Sizes.{Sizes}
 use Rattle.walk.specs.Scale.{plain, long, unreached}
-use Rattle.walk.specs.ClaimsLaws.{claimed-next}
+use Rattle.walk.proofs.ClaimsLaws.{claimed-next}
 use Rattle.layers.specs.Crossing.{crossing_row, claim_in}
 use Rattle.layers.specs.CrossingLaws.{terminals-are, states-are}
 use Rattle.roads.specs.Lowest.{Lowest, Lowered, Among}

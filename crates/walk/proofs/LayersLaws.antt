@@ -7,9 +7,10 @@ use Rattle.book.specs.TablesLaws.{InRange}
 use Rattle.walk.specs.Walk.{Walk}
 use Rattle.walk.specs.Scale.{Scale, long, unreached}
 use Rattle.walk.specs.Cost.{Attained}
-use Rattle.walk.specs.CostLaws.{plus-mono, plus_assoc, plus-bounded, zero-plus, plus-far-left, cut-within, cut-beyond, plus-cut}
+use Rattle.walk.proofs.CostLaws.{plus-mono, plus_assoc, plus-bounded, zero-plus, plus-far-left, cut-within, cut-beyond, plus-cut}
 use Rattle.walk.specs.Claims.{Claims, Claimed, none, shifting, crossing, Witnessed, Least, LeastWhere, Arrival, OnwardTo, Weighs}
-use Rattle.walk.specs.ClaimsLaws.{attained-shift, attained-cross, claimed-next, claimed-bounded, claimed-terminal, Start, nowhere, shift-first, goto-first, claimed-start}
+use Rattle.walk.specs.ClaimsLaws.{Start, nowhere, shift-first, goto-first}
+use Rattle.walk.proofs.ClaimsLaws.{attained-shift, attained-cross, claimed-next, claimed-bounded, claimed-terminal, claimed-start}
 use Rattle.walk.specs.Layers.{Longer, add-shift, add-goto, from-shift, from-goto, Layer, LayerWhere, LayerWithin, cut_at, Leads, by-shift, by-goto, Hereditary, FromStart, ToGoal}
 use Rattle.walk.specs.Sum.{shift_cost, plus, cut}
 

@@ -6,9 +6,9 @@ use Rattle.std.proofs.Math.Seq.{take-append_seam}
 use Rattle.number.specs.Lent.{over}
 use Rattle.book.specs.Tables.{Tables}
 use Rattle.walk.specs.Answer.{Outcome, Best, WordsOf, Unreached as Never, Long as Far, Sentence as Word}
-use Rattle.walk.specs.AnswerLaws.{best-one}
+use Rattle.walk.proofs.AnswerLaws.{best-one}
 use Rattle.walk.specs.Scale.{plain}
-use Rattle.walk.specs.ShortestLaws.{cost-length}
+use Rattle.walk.proofs.ShortestLaws.{cost-length}
 use Rattle.failing.specs.Failing.{is_error}
 use Rattle.finder.specs.Finder.{Answered, found, sentence_of}
 use Rattle.finder.specs.declared.Found.{Found}

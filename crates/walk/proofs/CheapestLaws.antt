@@ -7,7 +7,7 @@ use Rattle.machine.specs.Machine.{Terminals, none, more}
 use Rattle.walk.specs.Scale.{Scale, unreached}
 use Rattle.walk.specs.Cost.{cost}
 use Rattle.walk.specs.Order.{Earlier, Better}
-use Rattle.walk.specs.OrderLaws.{before-length, before-earlier, earlier-before}
+use Rattle.walk.proofs.OrderLaws.{before-length, before-earlier, earlier-before}
 use Rattle.walk.specs.Answer.{Outcome, Unreached, Long, Sentence, Best, Answer}
 use Rattle.walk.specs.AnswerLaws.{mapped}
 use Rattle.walk.specs.Shortest.{Shorter}

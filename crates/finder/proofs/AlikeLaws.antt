@@ -13,7 +13,7 @@ use Rattle.forms.specs.Forms.{in_form_2}
 use Rattle.forms.specs.FormsLaws.{with_form}
 use Rattle.forms.proofs.FormsLaws.{plain-holds, plain-tables}
 use Rattle.walk.specs.Answer.{Outcome, AnswerAs}
-use Rattle.walk.specs.AnswerLaws.{answer-rank}
+use Rattle.walk.proofs.AnswerLaws.{answer-rank}
 use Rattle.walk.specs.Scale.{plain}
 use Rattle.layers.specs.CrossingLaws.{terminals-are}
 use Rattle.work.specs.Work.{cleared}

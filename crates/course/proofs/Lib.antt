@@ -1,0 +1,2 @@
+pub mod CourseLaws
+pub mod TurnsLaws

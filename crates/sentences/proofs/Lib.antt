@@ -1,0 +1,3 @@
+pub mod CertificateLaws
+pub mod PartsLaws
+pub mod SentencesLaws

@@ -1,0 +1,13 @@
+pub mod AnswerLaws
+pub mod CheapestLaws
+pub mod ChoiceLaws
+pub mod ClaimsLaws
+pub mod CostLaws
+pub mod LayersLaws
+pub mod MatchesLaws
+pub mod OrderLaws
+pub mod ShiftLaws
+pub mod ShortestLaws
+pub mod StarsLaws
+pub mod TheoryLaws
+pub mod WalkLaws

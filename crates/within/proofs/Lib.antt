@@ -1,0 +1,2 @@
+pub mod ReachingLaws
+pub mod WithinLaws
