@@ -15,7 +15,7 @@ fn main() {
     println!("cargo:rerun-if-changed={}", archive.display());
     if !archive.is_file() {
         eprintln!("{ARCHIVE} is not in {}.", directory.display());
-        eprintln!("Make it with `rt staticlib purlquartz` in the repository's root,");
+        eprintln!("Make it with `.ci/staticlib` in the repository's root,");
         eprintln!("or name the directory that holds it in {OVERRIDE}.");
         exit(1);
     }

@@ -1,5 +1,5 @@
 -- Action cells. Assumes nothing.
-use Rattle.number.specs.Words.{cond, ℕ, zero, suc, ◌/◌, ◌%◌, eqb}
+use Rattle.std.specs.Prelude.{cond, ℕ, zero, suc, ◌/◌, ◌%◌, eqb}
 use Rattle.book.specs.declared.Action.{Action}
 
 -- 'an action: 0 error, 1 accept, 2 + 2 × s shift to state s, 3 + 2 × p reduce production p', 'read as one of four kinds, shift and reduce with

@@ -1,5 +1,5 @@
 -- The table book: what reading it gives, out of bytes and out of cells, and what each call answers and leaves. Assumes nothing.
-use Rattle.number.specs.Words.{cond, List, [], ◌∷◌, ◌++◌, length, get_or, ℕ, zero, suc, ◌+◌, ltb, leb, eqb}
+use Rattle.std.specs.Prelude.{cond, List, [], ◌∷◌, ◌++◌, length, get_or, ℕ, zero, suc, ◌+◌, ltb, leb, eqb}
 use Rattle.number.specs.{Lent.over, Number.number_at, Number.written, Number.value, Number.refusal}
 use Rattle.number.specs.declared.{Number.Number, Refusal.Refusal}
 use Rattle.book.specs.Range.{fault, part_length}

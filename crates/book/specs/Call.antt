@@ -1,5 +1,5 @@
 -- A call: what refuses it before it does anything, and what it answers and leaves. Assumes nothing.
-use Rattle.number.specs.Words.{Bool, cond, List, [], ◌∷◌, ◌≡◌, ℕ}
+use Rattle.std.specs.Prelude.{Bool, cond, List, [], ◌∷◌, ◌≡◌, ℕ}
 use Rattle.number.specs.declared.Refusal.{Refusal}
 use Rattle.book.specs.declared.{Checked.Checked, Sizes.Sizes}
 

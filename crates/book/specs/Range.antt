@@ -1,5 +1,5 @@
 -- Which numbers are in range where in a book. Assumes nothing.
-use Rattle.number.specs.Words.{Bool, true, false, cond, not, ◌&&◌, ◌||◌, List, [], ◌∷◌, length, get_or, ℕ, ◌*◌, ◌%◌, ltb, leb, eqb}
+use Rattle.std.specs.Prelude.{Bool, true, false, cond, not, ◌&&◌, ◌||◌, List, [], ◌∷◌, length, get_or, ℕ, ◌*◌, ◌%◌, ltb, leb, eqb}
 use Rattle.book.specs.Action.{action_of}
 use Rattle.book.specs.declared.{Action.Action, Part.Part, Sizes.Sizes}
 

@@ -1,5 +1,5 @@
 -- The tables that a book's cells hold: what all higher crates speak about. Assumes nothing.
-use Rattle.number.specs.Words.{cond, ◌&&◌, List, get_or, ℕ, ◌+◌, ◌*◌, ltb, eqb}
+use Rattle.std.specs.Prelude.{cond, ◌&&◌, List, get_or, ℕ, ◌+◌, ◌*◌, ltb, eqb}
 use Rattle.book.specs.Action.{action_of}
 use Rattle.book.specs.Range.{part_length}
 use Rattle.book.specs.declared.{Action.Action, Part.Part, Sizes.Sizes}

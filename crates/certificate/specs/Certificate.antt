@@ -1,5 +1,5 @@
 -- A certificate: its claims, the conditions in their order, where each fails, and which verdict is right. Assumes nothing.
-use Rattle.number.specs.Words.{Bool, true, false, ◌&&◌, List, [], length, get_or, ◌⊎◌, ◌≡◌, ◌≢◌, ℕ, ◌+◌, ◌*◌, ◌<◌, ◌≤◌, eqb}
+use Rattle.std.specs.Prelude.{Bool, true, false, ◌&&◌, List, [], length, get_or, ◌⊎◌, ◌≡◌, ◌≢◌, ℕ, ◌+◌, ◌*◌, ◌<◌, ◌≤◌, eqb}
 use Rattle.book.specs.{Tables.Tables, declared.Action.Action}
 use Rattle.machine.specs.Machine.{Reaches}
 use Rattle.within.specs.Within.{reaches_within}

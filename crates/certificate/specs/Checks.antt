@@ -1,5 +1,5 @@
 -- What the call that checks a certificate answers, and what its two theorems speak of. Assumes nothing.
-use Rattle.number.specs.Words.{Bool, List, [], ◌∷◌, length, ◌≡◌, ℕ, ltb}
+use Rattle.std.specs.Prelude.{Bool, List, [], ◌∷◌, length, ◌≡◌, ℕ, ltb}
 use Rattle.number.specs.declared.Refusal.{Refusal}
 use Rattle.book.specs.{Book.of_cells, Book.checked, Call.admits, Tables.Tables, Tables.tables_of, declared.Checked.Checked, declared.Sizes.Sizes}
 use Rattle.walk.specs.Map.{IsMap}

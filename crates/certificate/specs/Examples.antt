@@ -1,5 +1,5 @@
 -- Small certificates and their verdicts, as one table. Assumes nothing.
-use Rattle.number.specs.Words.{List, [], ◌∷◌, ℕ}
+use Rattle.std.specs.Prelude.{List, [], ◌∷◌, ℕ}
 use Rattle.certificate.specs.declared.{Condition.Condition, Verdict.Verdict}
 
 pub record Case : Type 0 where

@@ -1,5 +1,5 @@
 -- Searches for the lowest index, and the verdict by the lowest fault of each condition. Assumes nothing.
-use Rattle.number.specs.Words.{cond, ℕ, zero, suc, ◌<◌, min, ltb}
+use Rattle.std.specs.Prelude.{cond, ℕ, zero, suc, ◌<◌, min, ltb}
 use Rattle.certificate.specs.Certificate.{order}
 use Rattle.certificate.specs.declared.{Condition.Condition, Verdict.Verdict}
 

@@ -1,5 +1,5 @@
 -- The sentences of a certificate: which there are, and what reading them gives. Assumes nothing.
-use Rattle.number.specs.Words.{cond, List, [], ◌∷◌, length, ℕ, ltb, leb}
+use Rattle.std.specs.Prelude.{cond, List, [], ◌∷◌, length, ℕ, ltb, leb}
 use Rattle.number.specs.{Number.number_at, declared.Number.Number, declared.Refusal.Refusal}
 use Rattle.book.specs.Book.{Row, admitted}
 use Rattle.lists.specs.Entry.{length_fault, symbol_row}

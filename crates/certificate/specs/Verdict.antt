@@ -1,5 +1,5 @@
 -- The verdict as a function: each condition is searched for its lowest fault. `VerdictLaws` says that it is the one right verdict. Assumes nothing.
-use Rattle.number.specs.Words.{Bool, cond, not, ◌&&◌, List, ℕ, zero, suc, ◌+◌, min, ltb, leb, eqb}
+use Rattle.std.specs.Prelude.{Bool, cond, not, ◌&&◌, List, ℕ, zero, suc, ◌+◌, min, ltb, leb, eqb}
 use Rattle.book.specs.{Tables.Tables, Tables.tables_of, declared.Action.Action}
 use Rattle.walk.specs.{Scale.plain, Scale.long, Scale.unreached, Sum.plus, Claims.Claims}
 use Rattle.certificate.specs.Certificate.{Certificate, crossing_at, crossing_count, pair_at, claim_count, certificate_in, is_right}

@@ -1,5 +1,5 @@
 -- How the sentences of a certificate are written. Assumes nothing.
-use Rattle.number.specs.Words.{cond, List, [], ◌∷◌, ◌++◌, length, ℕ, ◌≤◌, ◌<◌, leb}
+use Rattle.std.specs.Prelude.{cond, List, [], ◌∷◌, ◌++◌, length, ℕ, ◌≤◌, ◌<◌, leb}
 use Rattle.book.specs.{Book.bytes_of, Tables.Tables}
 use Rattle.machine.specs.Machine.{Terminals}
 use Rattle.walk.specs.Scale.{plain}

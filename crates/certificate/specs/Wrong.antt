@@ -1,5 +1,5 @@
 -- The first pair whose sentence is wrong. Assumes nothing.
-use Rattle.number.specs.Words.{false, List, [], length, get_or, ◌≡◌, ℕ, ◌/◌, ◌%◌, ◌≤◌, ◌<◌}
+use Rattle.std.specs.Prelude.{false, List, [], length, get_or, ◌≡◌, ℕ, ◌/◌, ◌%◌, ◌≤◌, ◌<◌}
 use Rattle.book.specs.Tables.{Tables}
 use Rattle.walk.specs.Scale.{plain}
 use Rattle.certificate.specs.Certificate.{is_right}

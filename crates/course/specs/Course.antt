@@ -1,5 +1,5 @@
 -- The entries of a list in turn: their runs, and the first fault. Assumes nothing.
-use Rattle.number.specs.Words.{Bool, false, cond, ◌&&◌, List, [], ◌∷◌, length, ℕ, suc, ltb, eqb}
+use Rattle.std.specs.Prelude.{Bool, false, cond, ◌&&◌, List, [], ◌∷◌, length, ℕ, suc, ltb, eqb}
 use Rattle.book.specs.{Range.among, Tables.Tables}
 use Rattle.machine.specs.{Run.runs, Run.stop_of, declared.Ending.Ending}
 use Rattle.items.specs.Items.{Item}

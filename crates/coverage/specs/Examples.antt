@@ -1,5 +1,5 @@
 -- The lines on Bracket's list, as one table. Assumes nothing.
-use Rattle.number.specs.Words.{List, [], ◌∷◌, ℕ}
+use Rattle.std.specs.Prelude.{List, [], ◌∷◌, ℕ}
 use Rattle.walk.specs.Stars.{bracket}
 use Rattle.course.specs.declared.Judgement.{Judgement}
 use Rattle.judgement.specs.Judgement.{JudgedIn}

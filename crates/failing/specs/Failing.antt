@@ -1,5 +1,5 @@
 -- Which pairs fail. Assumes nothing.
-use Rattle.number.specs.Words.{Bool, true, false, List, ◌↔◌, ◌≡◌, ℕ, ◌<◌}
+use Rattle.std.specs.Prelude.{Bool, true, false, List, ◌↔◌, ◌≡◌, ℕ, ◌<◌}
 use Rattle.book.specs.{Tables.Tables, declared.Action.Action}
 use Rattle.machine.specs.Machine.{Reaches}
 use Rattle.walk.specs.Breaks.{Breaks}

@@ -1,5 +1,5 @@
 -- The forms of a book, and the converters from one to the other. Assumes nothing.
-use Rattle.number.specs.Words.{Bool, cond, not, List, [], ◌∷◌, ◌++◌, take, drop, ℕ, zero, suc, ◌+◌, ltb, eqb}
+use Rattle.std.specs.Prelude.{Bool, cond, not, List, [], ◌∷◌, ◌++◌, take, drop, ℕ, zero, suc, ◌+◌, ltb, eqb}
 use Rattle.number.specs.Lent.{firsts}
 use Rattle.book.specs.Book.{Row, of_cells, delivered}
 use Rattle.book.specs.Tables.{sizes_of, part_start, rank_of}

@@ -1,5 +1,5 @@
 -- What the entries of a list say, wherever they stand in it, and how a list is written. Assumes nothing.
-use Rattle.number.specs.Words.{List, [], ◌∷◌, ◌++◌, length, map, ℕ}
+use Rattle.std.specs.Prelude.{List, [], ◌∷◌, ◌++◌, length, map, ℕ}
 use Rattle.book.specs.Book.{bytes_of}
 use Rattle.lists.specs.Entry.{sentence}
 use Rattle.lists.specs.declared.Entry.{Entry}

@@ -1,5 +1,5 @@
 -- Two lists of one book joined: what joining them answers and leaves. Assumes nothing.
-use Rattle.number.specs.Words.{true, cond, List, [], ◌∷◌, length, ℕ, ltb}
+use Rattle.std.specs.Prelude.{true, cond, List, [], ◌∷◌, length, ℕ, ltb}
 use Rattle.book.specs.{Book.of_cells, Book.checked, Tables.Tables, Tables.tables_of, declared.Checked.Checked}
 use Rattle.lists.specs.List.{Listed, entries, refused, list_of}
 use Rattle.items.specs.Items.{Item, items, list_bytes}

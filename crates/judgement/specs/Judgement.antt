@@ -1,5 +1,5 @@
 -- The judgement of a list of sentences: after its entries in turn the states without one; and what the call answers and leaves. Assumes nothing.
-use Rattle.number.specs.Words.{Bool, true, cond, not, ◌&&◌, List, [], ◌∷◌, length, replicate, ◌≡◌, ℕ, zero, suc, ◌<◌, ltb}
+use Rattle.std.specs.Prelude.{Bool, true, cond, not, ◌&&◌, List, [], ◌∷◌, length, replicate, ◌≡◌, ℕ, zero, suc, ◌<◌, ltb}
 use Rattle.number.specs.Lent.{over}
 use Rattle.book.specs.{Book.of_cells, Book.checked, Call.admits, Call.Concludes, Range.among, Tables.Tables, Tables.tables_of, declared.Sizes.Sizes}
 use Rattle.failing.specs.Failing.{FailingPair, Decides}

@@ -1,5 +1,5 @@
 -- The counts of a listing's header. Assumes nothing.
-use Rattle.number.specs.Words.{Bool, ◌≡◌, ℕ, zero, suc, ◌+◌, ◌<◌}
+use Rattle.std.specs.Prelude.{Bool, ◌≡◌, ℕ, zero, suc, ◌+◌, ◌<◌}
 use Rattle.book.specs.{Tables.Tables, declared.Sizes.Sizes}
 use Rattle.sets.specs.Set.{count_of}
 use Rattle.failing.specs.Failing.{FailingPair, Decides}

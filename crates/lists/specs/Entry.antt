@@ -1,5 +1,5 @@
 -- One entry of a list of sentences: which numbers are in range where, and what reading it at an offset gives. Assumes nothing.
-use Rattle.number.specs.Words.{◌&&◌, List, [], take, drop, ℕ, ltb, leb}
+use Rattle.std.specs.Prelude.{◌&&◌, List, [], take, drop, ℕ, ltb, leb}
 use Rattle.number.specs.{Number.number_at, declared.Number.Number}
 use Rattle.book.specs.{Book.Row, Book.admitted, Book.row, Range.fault_unless}
 use Rattle.lists.specs.declared.{Entry.Entry, Step.Step}

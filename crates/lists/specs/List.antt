@@ -1,5 +1,5 @@
 -- A list of sentences: what reading it gives, and what each call answers. Assumes nothing.
-use Rattle.number.specs.Words.{cond, List, [], ◌∷◌, length, ℕ, zero, suc, ◌-◌, ltb, eqb}
+use Rattle.std.specs.Prelude.{cond, List, [], ◌∷◌, length, ℕ, zero, suc, ◌-◌, ltb, eqb}
 use Rattle.number.specs.{Number.number_at, declared.Number.Number, declared.Refusal.Refusal}
 use Rattle.book.specs.{Book.Row, Book.admitted, Book.of_cells, Tables.sizes_of}
 use Rattle.lists.specs.Entry.{outside, entry_at}

@@ -1,6 +1,6 @@
 -- A reader over a list: what starting it gives, and what one turn of it gives and leaves. Assumes nothing.
 use Rattle.std.specs.Borrow.{Bor}
-use Rattle.number.specs.Words.{List, ℕ}
+use Rattle.std.specs.Prelude.{List, ℕ}
 use Rattle.lists.specs.List.{list_in, listing, next_at}
 use Rattle.lists.specs.declared.{Listing.Listing, Next.Next, Given.Given, Opened.Opened, Reader.Reader, Turn.Turn}
 

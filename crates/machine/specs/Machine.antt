@@ -1,5 +1,5 @@
 -- The machine. Assumes nothing.
-use Rattle.number.specs.Words.{◌≡◌, List, [], ◌∷◌, ◌++◌, drop, ℕ, zero, suc, ◌≤◌, ◌<◌}
+use Rattle.std.specs.Prelude.{◌≡◌, List, [], ◌∷◌, ◌++◌, drop, ℕ, zero, suc, ◌≤◌, ◌<◌}
 use Rattle.book.specs.{Tables.Tables, declared.Action.Action}
 
 -- what a step does: 'accept, error and a broken reduction end it'; a shift pushes a state, a reduction leaves a new stack

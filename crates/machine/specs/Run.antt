@@ -1,5 +1,5 @@
 -- A run: the machine under the limits, how it ends, and what the call answers and leaves. Assumes nothing.
-use Rattle.number.specs.Words.{Bool, true, false, cond, ◌&&◌, List, [], ◌∷◌, ◌++◌, reverse, length, get_or, drop, replicate, ℕ, zero, suc, ◌-◌, ltb, leb}
+use Rattle.std.specs.Prelude.{Bool, true, false, cond, ◌&&◌, List, [], ◌∷◌, ◌++◌, reverse, length, get_or, drop, replicate, ℕ, zero, suc, ◌-◌, ltb, leb}
 use Rattle.book.specs.{Book.of_cells, Book.checked, Call.admits, Tables.Tables, Tables.tables_of, declared.Checked.Checked, declared.Sizes.Sizes}
 use Rattle.machine.specs.Machine.{Move, accepts, fails, breaks, shifts, reduces, next}
 use Rattle.machine.specs.declared.{Stop.Stop, Ending.Ending, Ran.Ran}

@@ -1,5 +1,5 @@
 -- What the map and the sets answer and leave. Assumes nothing.
-use Rattle.number.specs.Words.{Bool, true, List, [], ◌∷◌, length, get_or, ◌↔◌, ◌≡◌, ℕ, ◌*◌, ◌<◌, ltb}
+use Rattle.std.specs.Prelude.{Bool, true, List, [], ◌∷◌, length, get_or, ◌↔◌, ◌≡◌, ℕ, ◌*◌, ◌<◌, ltb}
 use Rattle.number.specs.Lent.{over}
 use Rattle.book.specs.{Book.of_cells, Book.checked, Call.admits, Call.Concludes, Tables.tables_of}
 use Rattle.book.specs.declared.{Written.Written, Sizes.Sizes}

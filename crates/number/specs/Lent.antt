@@ -1,5 +1,5 @@
 -- What lent memory holds after a call that wrote at its front. Assumes nothing.
-use Rattle.number.specs.Words.{List, [], ◌∷◌, ◌++◌, ℕ, zero, suc, length, drop}
+use Rattle.std.specs.Prelude.{List, [], ◌∷◌, ◌++◌, ℕ, zero, suc, length, drop}
 
 -- a result at the front; what lies after it keeps its values
 abbrev pub over : List ℕ → List ℕ → List ℕ

@@ -3,4 +3,3 @@ pub mod LentLaws
 pub mod Number
 pub mod NumberLaws
 pub mod TestLaws
-pub mod Words

@@ -1,5 +1,5 @@
 -- One number: how it is written, and what reading it at an offset gives. Assumes nothing.
-use Rattle.number.specs.Words.{List, [], ◌∷◌, ℕ, zero, suc, ◌+◌, ◌*◌, ◌/◌, ◌%◌, cond, ◌||◌, ltb, leb, eqb, drop}
+use Rattle.std.specs.Prelude.{List, [], ◌∷◌, ℕ, zero, suc, ◌+◌, ◌*◌, ◌/◌, ◌%◌, cond, ◌||◌, ltb, leb, eqb, drop}
 use Rattle.number.specs.declared.Number.{Number}
 
 -- 'A refusal is a number and a place'

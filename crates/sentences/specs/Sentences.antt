@@ -1,5 +1,5 @@
 -- What the sentences of all pairs are, and what the call leaves. Assumes nothing.
-use Rattle.number.specs.Words.{Bool, true, false, List, [], ◌∷◌, ◌++◌, map, length, get_or, ◌≡◌, ℕ, ◌+◌, ◌*◌, ◌<◌, ltb}
+use Rattle.std.specs.Prelude.{Bool, true, false, List, [], ◌∷◌, ◌++◌, map, length, get_or, ◌≡◌, ℕ, ◌+◌, ◌*◌, ◌<◌, ltb}
 use Rattle.number.specs.Lent.{over}
 use Rattle.book.specs.{Book.of_cells, Book.checked, Book.bytes_of, Call.admits, Call.Concludes, Tables.Tables, Tables.tables_of, Tables.rank_of}
 use Rattle.book.specs.declared.{Written.Written, Sizes.Sizes}

@@ -1,5 +1,5 @@
 -- A list in state order: what sorting it answers and leaves. Assumes nothing.
-use Rattle.number.specs.Words.{false, cond, List, [], ◌++◌, length, ℕ, zero, suc, leb}
+use Rattle.std.specs.Prelude.{false, cond, List, [], ◌++◌, length, ℕ, zero, suc, leb}
 use Rattle.number.specs.{Lent.over, declared.Refusal.Refusal}
 use Rattle.book.specs.Tables.{Tables, tables_of}
 use Rattle.lists.specs.List.{Listed, entries, refused, list_in}

@@ -1,5 +1,5 @@
 -- Numbers in decimal digits. Assumes nothing.
-use Rattle.number.specs.Words.{cond, List, [], ◌∷◌, ◌++◌, ℕ, zero, suc, ◌+◌, ◌/◌, ◌%◌, ltb}
+use Rattle.std.specs.Prelude.{cond, List, [], ◌∷◌, ◌++◌, ℕ, zero, suc, ◌+◌, ◌/◌, ◌%◌, ltb}
 
 -- the digits of a number in ASCII, the highest first, without leading zeros; at most k
 unfoldable pub digits : ℕ → ℕ → List ℕ

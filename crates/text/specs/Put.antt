@@ -1,5 +1,5 @@
 -- Bytes put at a place of a lent buffer. Assumes nothing.
-use Rattle.number.specs.Words.{List, length, ◌≡◌, ℕ, ◌+◌}
+use Rattle.std.specs.Prelude.{List, length, ◌≡◌, ℕ, ◌+◌}
 use Rattle.std.proofs.lemmas.List.Edits.{sets}
 
 -- the bytes stand there one after the other, all others keep their values, and the place after them is answered

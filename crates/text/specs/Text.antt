@@ -1,5 +1,5 @@
 -- Words in a line. Assumes nothing.
-use Rattle.number.specs.Words.{List, [], ◌∷◌, ◌++◌, ℕ}
+use Rattle.std.specs.Prelude.{List, [], ◌∷◌, ◌++◌, ℕ}
 
 -- each word after a space
 abbrev pub spaced : List (List ℕ) → List ℕ

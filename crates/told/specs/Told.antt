@@ -1,5 +1,5 @@
 -- The answers as numbers, for callers in other languages. Assumes nothing.
-use Rattle.number.specs.Words.{List, [], ◌∷◌, ◌++◌, take, replicate, ℕ}
+use Rattle.std.specs.Prelude.{List, [], ◌∷◌, ◌++◌, take, replicate, ℕ}
 use Rattle.number.specs.{Lent.over, declared.Refusal.Refusal}
 use Rattle.book.specs.{Call.Tells, declared.Checked.Checked, declared.Written.Written}
 use Rattle.machine.specs.{Run.stop_of, declared.Ending.Ending, declared.Ran.Ran, declared.Stop.Stop}

@@ -1,5 +1,5 @@
 -- What the finder answers for one pair. `Shortest.antt` has it by lengths, and a law says that this is the same. Assumes nothing.
-use Rattle.number.specs.Words.{Bool, true, false, List, ◌≢◌, ℕ, ◌≤◌, ◌<◌}
+use Rattle.std.specs.Prelude.{Bool, true, false, List, ◌≢◌, ℕ, ◌≤◌, ◌<◌}
 use Rattle.book.specs.Tables.{Tables}
 use Rattle.machine.specs.Machine.{Reaches}
 use Rattle.walk.specs.{Scale.Scale, Cost.cost, Order.Better, Breaks.Breaks}

@@ -1,5 +1,5 @@
 -- Reductions that break. Assumes nothing.
-use Rattle.number.specs.Words.{List, [], ◌∷◌, ◌++◌, ◌≡◌, ℕ}
+use Rattle.std.specs.Prelude.{List, [], ◌∷◌, ◌++◌, ◌≡◌, ℕ}
 use Rattle.book.specs.Tables.{Tables}
 use Rattle.machine.specs.Machine.{Move, next, Steps, Terminals}
 

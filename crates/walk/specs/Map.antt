@@ -1,5 +1,5 @@
 -- The whole map. Assumes nothing.
-use Rattle.number.specs.Words.{List, length, get_or, ◌≡◌, ℕ, ◌+◌, ◌*◌, ◌<◌}
+use Rattle.std.specs.Prelude.{List, length, get_or, ◌≡◌, ℕ, ◌+◌, ◌*◌, ◌<◌}
 use Rattle.book.specs.{Tables.tables_of, declared.Sizes.Sizes}
 use Rattle.machine.specs.Machine.{Reaches}
 use Rattle.walk.specs.{Scale.plain, Cost.Exact}

@@ -1,5 +1,5 @@
 -- The order of words. Assumes nothing.
-use Rattle.number.specs.Words.{List, ◌∷◌, ◌⊎◌, ◌≡◌, ℕ, ◌<◌}
+use Rattle.std.specs.Prelude.{List, ◌∷◌, ◌⊎◌, ◌≡◌, ℕ, ◌<◌}
 use Rattle.walk.specs.{Scale.Scale, Cost.cost}
 
 -- 'Of two different sequences of equal length, the one with the smaller terminal number at the first difference is earlier in order'; here of

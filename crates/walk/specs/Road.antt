@@ -1,5 +1,5 @@
 -- Crossings of gotos, and transitions in a row at claimed costs: a road. Assumes nothing.
-use Rattle.number.specs.Words.{List, ◌≡◌, ℕ, suc, ◌<◌}
+use Rattle.std.specs.Prelude.{List, ◌≡◌, ℕ, suc, ◌<◌}
 use Rattle.book.specs.{Tables.Tables, declared.Action.Action}
 use Rattle.walk.specs.Scale.{Scale}
 use Rattle.walk.specs.Sum.{plus, shift_cost}

@@ -1,5 +1,5 @@
 -- What a form of book fixes about costs: what each symbol costs, how much a sentence may cost, and the two marks above that. Assumes nothing.
-use Rattle.number.specs.Words.{ℕ, suc, min}
+use Rattle.std.specs.Prelude.{ℕ, suc, min}
 
 -- any numbers make a scale: what a terminal costs beyond 1, and the most that a sentence may cost
 pub record Scale : Type 0 where

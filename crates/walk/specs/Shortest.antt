@@ -1,5 +1,5 @@
 -- The answer by lengths, in the words of forms 1 and 2; `best-shortest` shows that `Best plain` is this. Assumes nothing.
-use Rattle.number.specs.Words.{List, ◌∷◌, length, ◌⊎◌, ◌≢◌, ◌≡◌, ℕ, ◌≤◌, ◌<◌}
+use Rattle.std.specs.Prelude.{List, ◌∷◌, length, ◌⊎◌, ◌≢◌, ◌≡◌, ℕ, ◌≤◌, ◌<◌}
 use Rattle.walk.specs.Answer.{Outcome, Unreached, Long, Sentence}
 
 -- 'Of two different sequences of equal length, the one with the smaller terminal number at the first difference is earlier in order'

@@ -1,5 +1,5 @@
 -- Costs as tables hold them: what a shift adds, capped sums, and what is above a bound. Assumes nothing.
-use Rattle.number.specs.Words.{cond, ℕ, ◌+◌, min, ltb, leb}
+use Rattle.std.specs.Prelude.{cond, ℕ, ◌+◌, min, ltb, leb}
 use Rattle.walk.specs.Scale.{Scale, weight, long, unreached, cap}
 
 -- what a shift adds to a cost

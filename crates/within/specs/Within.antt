@@ -1,5 +1,5 @@
 -- What a run brings on top: whether a sentence reaches its pair within a run's limits. Assumes nothing.
-use Rattle.number.specs.Words.{Bool, true, false, List, [], ◌∷◌, length, ℕ, zero, suc, ltb, eqb}
+use Rattle.std.specs.Prelude.{Bool, true, false, List, [], ◌∷◌, length, ℕ, zero, suc, ltb, eqb}
 use Rattle.book.specs.Tables.{Tables}
 use Rattle.machine.specs.Machine.{next}
 use Rattle.machine.specs.Run.{stops, to_shift, reduced_to, limited, stopped, reducing}

@@ -1,5 +1,5 @@
 -- The work cells that a search is lent. Assumes nothing.
-use Rattle.number.specs.Words.{List, replicate, ℕ, ◌+◌, ◌*◌}
+use Rattle.std.specs.Prelude.{List, replicate, ℕ, ◌+◌, ◌*◌}
 use Rattle.number.specs.Lent.{over}
 use Rattle.book.specs.declared.Sizes.{Sizes}
 
