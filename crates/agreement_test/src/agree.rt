@@ -1,7 +1,7 @@
 // One book: the library's answers compared with the second finder's.
 ghost use Rattle.std.specs.Prelude.{◌≤◌};
 
-use crate::{answers, failing, pops, sentences, tables, verdicts, wrong};
+use crate::{answers, failing_pairs, pops, sentences, tables, verdicts, wrong};
 
 // How many pairs were compared, how many of them differ, and how many could not be compared.
 #[derive(Clone, Copy)]
@@ -98,7 +98,7 @@ fn all_pairs(cells: &[u16], tables: &[u16; 768], s: usize, t: usize, what: usize
     let tried = second(tables, t, &mut least, &mut words, &mut over, &mut dist);
     tell_second(tried, &least, &dist);
     let mut all = compare(cells, tables, s, t, tried, &least, &words, &dist, what);
-    failing::compare(
+    failing_pairs::compare(
         cells, tables, s, t, &over, &dist, &mut least, &mut words, what, &mut all,
     );
     all

@@ -17,7 +17,7 @@
 mod agree;
 mod answers;
 mod breaking;
-mod failing;
+mod failing_pairs;
 mod follow;
 mod judged;
 mod lines;

@@ -3,7 +3,7 @@
 // after 1,000 symbols and another after 1,001, and zeros up to 70,000 bytes.
 #![tactic(auto)]
 
-mod breaks;
+mod breaking;
 mod ring;
 
 const BOOK: usize = 326;
@@ -52,6 +52,6 @@ fn main() {
     );
     list(b"cut off", b"\x01\x01\x00\x01\x00");
     list(b"nothing", b"");
-    breaks::list_all();
+    breaking::list_all();
     input();
 }
