@@ -1,5 +1,5 @@
-// The reader: a list, where its next entry begins and how many are left. The functions over it are thin, and proved by hand; the work is
-// done by covered functions, which take the list and the numbers.
+// The reader: a list, where its next entry begins and how many are left. The functions over it are thin; the work is done by functions
+// that take the list and the numbers.
 ghost use Rattle.std.specs.Prelude.{◌≡◌};
 ghost use Rattle.lists.specs.List.{list_in, listing, next_at};
 ghost use Rattle.lists.specs.Reading.{opened, start_of, turned, turn_of, moved};

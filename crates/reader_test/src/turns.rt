@@ -1,4 +1,4 @@
-// A reader that is kept over a list. Both functions are walks by hand, as a reader holds a reference.
+// A reader that is kept over a list: one turn of it, and five.
 ghost use Rattle.std.specs.Prelude.{◌≡◌};
 ghost use Rattle.lists.specs.Reading.{moved};
 

@@ -4,4 +4,4 @@ use lib.ListN.{length-take}
 use Rattle.listing_test.proofs.books.Goals as goal
 
 pub slice_bounds-list-end-2 : goal.slice_bounds-list-end-2
-slice_bounds-list-end-2 c = let h = c in simp length-take (omega arith)
+slice_bounds-list-end-2 c = simp length-take (omega arith)
