@@ -1,10 +1,12 @@
 // One book: the library's answers compared with the second finder's.
 ghost use Rattle.std.specs.Prelude.{◌≤◌};
 
-use crate::{answers, failing_pairs, pops, sentences, tables, verdicts, wrong};
+use crate::verdicts::{self, Verdict};
+use crate::wrong::{self, Wrong};
+use crate::{answers, failing_pairs, pops, sentences, tables};
 
 // How many pairs were compared, how many of them differ, and how many could not be compared.
-#[derive(Clone, Copy)]
+#[derive(Clone, Copy, Default)]
 pub struct Tally {
     pub compared: usize,
     pub other: usize,
@@ -35,7 +37,7 @@ fn tell_second(tried: usize, least: &[u16; 256], dist: &[u16; 256]) {
     trial::label(b" symbols ", verdicts::below(least, 1001));
 }
 
-// The library's answers, one of them changed if what is not 0, beside the second finder's.
+// The library's answers, one of them changed as what says, beside the second finder's.
 fn compare(
     cells: &[u16],
     tables: &[u16; 768],
@@ -45,8 +47,8 @@ fn compare(
     least: &[u16; 256],
     words: &[u8; 262144],
     dist: &[u16; 256],
-    what: usize,
-) -> [u8; 256] {
+    what: Wrong,
+) -> [Verdict; 256] {
     let mut map = [0u16; 256];
     let mut lengths = [0u16; 256];
     let mut theirs = [0u8; 262144];
@@ -70,13 +72,13 @@ fn compare(
     all
 }
 
-fn counts(all: &[u8; 256]) -> Tally {
-    let same = verdicts::count(all, verdicts::SAME);
-    let other = verdicts::count(all, verdicts::OTHER);
+fn counts(all: &[Verdict; 256]) -> Tally {
+    let same = verdicts::count(all, Verdict::Same);
+    let other = verdicts::count(all, Verdict::Other);
     Tally {
         compared: same + other,
         other,
-        open: verdicts::count(all, verdicts::OPEN),
+        open: verdicts::count(all, Verdict::Open),
     }
 }
 
@@ -88,7 +90,7 @@ pub fn tell(r: Tally) {
 }
 
 // The verdict on each pair.
-fn all_pairs(cells: &[u16], tables: &[u16; 768], s: usize, t: usize, what: usize) -> [u8; 256]
+fn all_pairs(cells: &[u16], tables: &[u16; 768], s: usize, t: usize, what: Wrong) -> [Verdict; 256]
     requires { (1 ≤ t) × (t ≤ 8) }
 {
     let mut least = [sentences::NONE; 256];
@@ -104,7 +106,7 @@ fn all_pairs(cells: &[u16], tables: &[u16; 768], s: usize, t: usize, what: usize
     all
 }
 
-fn of_sizes(cells: &[u16], t: usize, n: usize, s: usize, p: usize, what: usize) -> Tally
+fn of_sizes(cells: &[u16], t: usize, n: usize, s: usize, p: usize, what: Wrong) -> Tally
     requires { (1 ≤ t) × (t ≤ 8) × (s ≤ 32) × (p ≤ 32) }
 {
     let tables = tables::tables_of(cells, t, n, s, p);
@@ -117,15 +119,11 @@ fn of_sizes(cells: &[u16], t: usize, n: usize, s: usize, p: usize, what: usize) 
 
 fn too_large() -> Tally {
     trial::text(b" too large\n");
-    Tally {
-        compared: 0,
-        other: 0,
-        open: 0,
-    }
+    Tally::default()
 }
 
-// A book, and which of the library's answers is changed before it is compared, 0 for none.
-pub fn book(cells: &[u16], what: usize) -> Tally {
+// A book, and which of the library's answers is changed before it is compared.
+pub fn book(cells: &[u16], what: Wrong) -> Tally {
     let t = tables::wide(tables::number_at(cells, 1));
     let n = tables::wide(tables::number_at(cells, 2));
     let s = tables::wide(tables::number_at(cells, 3));
@@ -134,19 +132,7 @@ pub fn book(cells: &[u16], what: usize) -> Tally {
     trial::label(b" nonterminals ", n);
     trial::label(b" states ", s);
     trial::label(b" productions ", p);
-    if t == 0 {
-        return too_large();
-    }
-    if t > 8 {
-        return too_large();
-    }
-    if n > 8 {
-        return too_large();
-    }
-    if s > 32 {
-        return too_large();
-    }
-    if p > 32 {
+    if t == 0 || t > 8 || n > 8 || s > 32 || p > 32 {
         return too_large();
     }
     of_sizes(cells, t, n, s, p, what)

@@ -3,30 +3,15 @@
 ghost use Rattle.std.specs.Prelude.{◌<◌};
 
 use crate::pops::{UNREACHED, cost_over, cost_to, plus};
-use crate::tables;
-
-fn least(a: u16, b: u16) -> u16 {
-    if a < b {
-        return a;
-    }
-    b
-}
-
-fn put(to: &mut [u16; 256], k: usize, v: u16)
-    requires { k < 256 }
-{
-    to[k] = v;
-}
+use crate::tables::{self, Act};
 
 // The least cost from x on by one state that is pushed over it, and then as `on` says.
 fn nearest(over: &[u16; 65536], on: &[u16; 256], x: usize) -> u16
     requires { x < 256 }
 {
     let mut v = UNREACHED;
-    let mut y: usize = 0;
-    while y < 256 {
-        v = least(v, plus(cost_over(over, x, y), cost_to(on, y)));
-        y += 1;
+    for y in 0..256 {
+        v = v.min(plus(cost_over(over, x, y), cost_to(on, y)));
     }
     v
 }
@@ -34,10 +19,8 @@ fn nearest(over: &[u16; 65536], on: &[u16; 256], x: usize) -> u16
 // The costs from one state further down.
 fn down(over: &[u16; 65536], on: &[u16; 256]) -> [u16; 256] {
     let mut to = [UNREACHED; 256];
-    let mut x: usize = 0;
-    while x < 256 {
-        put(&mut to, x, nearest(over, on, x));
-        x += 1;
+    for (x, v) in to.iter_mut().enumerate() {
+        *v = nearest(over, on, x);
     }
     to
 }
@@ -45,10 +28,8 @@ fn down(over: &[u16; 65536], on: &[u16; 256]) -> [u16; 256] {
 // The least cost where the stack begins here.
 fn from_start(on: &[u16; 256]) -> u16 {
     let mut v = UNREACHED;
-    let mut z: usize = 0;
-    while z < 8 {
-        v = least(v, cost_to(on, z));
-        z += 1;
+    for cost in &on[..8] {
+        v = v.min(*cost);
     }
     v
 }
@@ -57,7 +38,7 @@ fn from_start(on: &[u16; 256]) -> u16 {
 fn without(tables: &[u16; 768], a: u16, dist: &[u16; 256], on: &[u16; 256], x: usize) -> u16
     requires { x < 256 }
 {
-    if tables::goto_of(tables, (x / 8) as u16, a) != 0 {
+    if tables::goto_of(tables, (x / 8) as u16, a).is_some() {
         return UNREACHED;
     }
     plus(cost_to(dist, x), cost_to(on, x))
@@ -66,10 +47,8 @@ fn without(tables: &[u16; 768], a: u16, dist: &[u16; 256], on: &[u16; 256], x: u
 // The least of these.
 fn missing(tables: &[u16; 768], a: u16, dist: &[u16; 256], on: &[u16; 256]) -> u16 {
     let mut v = UNREACHED;
-    let mut x: usize = 0;
-    while x < 256 {
-        v = least(v, without(tables, a, dist, on, x));
-        x += 1;
+    for x in 0..256 {
+        v = v.min(without(tables, a, dist, on, x));
     }
     v
 }
@@ -86,36 +65,31 @@ fn cost_of(
     requires { k < 256 }
 {
     let mut on = [UNREACHED; 256];
-    put(&mut on, k, 0);
+    on[k] = 0;
     let mut v = UNREACHED;
-    let mut j: usize = 0;
-    while j < n {
-        v = least(v, from_start(&on));
+    for _ in 0..n {
+        v = v.min(from_start(&on));
         on = down(over, &on);
-        j += 1;
     }
-    least(v, missing(tables, a, dist, &on))
+    v.min(missing(tables, a, dist, &on))
 }
 
 // The cost until pair k fails: until it is reached, where its action is error, or until its reduction breaks.
 fn cost_at(tables: &[u16; 768], over: &[u16; 65536], dist: &[u16; 256], k: usize) -> u16
     requires { k < 256 }
 {
-    if tables::is_error(tables, k) {
-        return cost_to(dist, k);
+    match tables::action_of(tables, k) {
+        Act::Error => cost_to(dist, k),
+        Act::Reduce(p) => {
+            let a = tables::left_side(tables, p);
+            cost_of(tables, over, dist, k, a, tables::length_of(tables, p))
+        }
+        _ => UNREACHED,
     }
-    if !tables::reduces(tables, k) {
-        return UNREACHED;
-    }
-    let p = tables::production(tables, k);
-    let a = tables::left_side(tables, p);
-    cost_of(tables, over, dist, k, a, tables::length_of(tables, p))
 }
 
 pub fn costs(tables: &[u16; 768], over: &[u16; 65536], dist: &[u16; 256], to: &mut [u16; 256]) {
-    let mut k: usize = 0;
-    while k < 256 {
-        put(to, k, cost_at(tables, over, dist, k));
-        k += 1;
+    for (k, v) in to.iter_mut().enumerate() {
+        *v = cost_at(tables, over, dist, k);
     }
 }

@@ -2,15 +2,14 @@
 ghost use Rattle.std.specs.Prelude.{◌<◌, ◌≤◌};
 
 use crate::pops::UNREACHED;
-use crate::{answers, breaking, judged, sentences, tables, verdicts, wrong};
+use crate::verdicts::{self, Verdict};
+use crate::wrong::{self, Wrong};
+use crate::{answers, breaking, judged, sentences, tables};
 
 fn below(tables: &[u16; 768], cells: &[u16; 256], mark: u16, k: usize) -> bool
     requires { k < 256 }
 {
-    if !tables::reduces(tables, k) {
-        return false;
-    }
-    cells[k] < mark
+    tables::reduces(tables, k) && cells[k] < mark
 }
 
 // How many pairs that reduce are below a mark.
@@ -18,12 +17,10 @@ fn count(tables: &[u16; 768], cells: &[u16; 256], mark: u16) -> usize
     ensures { result ≤ 256 }
 {
     let mut n: usize = 0;
-    let mut k: usize = 0;
-    while k < 256 {
+    for k in 0..256 {
         if below(tables, cells, mark, k) {
             n += 1;
         }
-        k += 1;
     }
     n
 }
@@ -38,8 +35,8 @@ fn by_breaks(
     least: &[u16; 256],
     words: &[u8; 262144],
     costs: &[u16; 256],
-    what: usize,
-    all: &mut [u8; 256],
+    what: Wrong,
+    all: &mut [Verdict; 256],
 ) {
     let mut lengths = [0u16; 256];
     let mut theirs = [0u8; 262144];
@@ -50,10 +47,7 @@ fn by_breaks(
 }
 
 fn lists(s: usize) -> usize {
-    if s > 8 {
-        return 9;
-    }
-    s + 1
+    s.min(8) + 1
 }
 
 // The costs until pairs fail, and the sentences with which they do, from those that reach them. Answers a length: all shorter sentences were
@@ -89,8 +83,8 @@ pub fn compare(
     dist: &[u16; 256],
     least: &mut [u16; 256],
     words: &mut [u8; 262144],
-    what: usize,
-    all: &mut [u8; 256],
+    what: Wrong,
+    all: &mut [Verdict; 256],
 )
     requires { (1 ≤ t) × (t ≤ 8) }
 {

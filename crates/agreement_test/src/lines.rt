@@ -1,8 +1,7 @@
 // The lines of 'Two small books' that are not marked to be proved; those of lists are proved all the same, in `coverage`.
-use crate::judged::{NO_STATE, state_of};
-use book::Written;
+use crate::judged::state_of;
 use finder::Found;
-use machine::{Ending, Ran};
+use machine::Ending;
 
 fn ending(e: Ending) {
     match e {
@@ -16,9 +15,8 @@ fn ending(e: Ending) {
 fn empty_run(cells: &[u16]) {
     let mut stack = [0u16; 1024];
     trial::text(b"the empty run is");
-    match machine::run(cells, b"", 0, &mut stack) {
-        Ran::Ended(e) => ending(e),
-        Ran::Refused(_) => {}
+    if let Ok(e) = machine::run(cells, b"", 0, &mut stack) {
+        ending(e);
     }
     trial::text(b"\n");
 }
@@ -29,7 +27,7 @@ fn pair(cells: &[u16], s: u16, z: u16) {
     trial::label(b"pair ", s as usize);
     trial::label(b" ", z as usize);
     match finder::find(cells, s, z, &mut work, &mut buffer) {
-        Found::Sentence(n) => trial::label(b" has a sentence of length ", n),
+        Ok(Found::Sentence(n)) => trial::label(b" has a sentence of length ", n),
         _ => trial::text(b" has none"),
     }
     trial::text(b"\n");
@@ -37,7 +35,7 @@ fn pair(cells: &[u16], s: u16, z: u16) {
 
 fn spinning() {
     let mut cells = [0u16; 13];
-    book::read(
+    let _ = book::read(
         b"\x01\x01\x01\x02\x02\x00\x00\x00\x01\x03\x05\x02\x00",
         &mut cells,
     );
@@ -47,18 +45,17 @@ fn spinning() {
 
 fn deep() {
     let mut cells = [0u16; 9];
-    book::read(b"\x01\x01\x01\x01\x01\x00\x00\x03\x01", &mut cells);
+    let _ = book::read(b"\x01\x01\x01\x01\x01\x00\x00\x03\x01", &mut cells);
     empty_run(&cells);
 }
 
 fn judged(name: &[u8], cells: &[u16], list: &[u8]) {
     trial::text(name);
-    let s = state_of(cells, list);
-    if s == NO_STATE {
-        trial::text(b" complete\n");
-        return;
+    match state_of(cells, list) {
+        Ok(None) => trial::text(b" complete"),
+        Ok(Some(s)) => trial::label(b" uncovered, state ", s),
+        Err(_) => trial::label(b" uncovered, state ", 65535),
     }
-    trial::label(b" uncovered, state ", s);
     trial::text(b"\n");
 }
 
@@ -95,8 +92,8 @@ fn map_in(cells: &[u16], work: &mut [u16], n: usize) {
     trial::label(b", in ", n);
     trial::text(b" work cells");
     match maps::map(cells, &mut work[..n], &mut to) {
-        Written::Refused(r) => trial::refusal(r),
-        Written::Count(m) => trial::label(b" a map of ", m),
+        Ok(m) => trial::label(b" a map of ", m),
+        Err(r) => trial::refusal(r),
     }
 }
 

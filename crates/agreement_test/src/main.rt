@@ -28,64 +28,46 @@ mod verdicts;
 mod wrong;
 
 use agree::Tally;
-use book::Written;
+use wrong::Wrong;
 
 // The most cells that a book has.
 const MOST: usize = 8485;
 
-fn none() -> Tally {
-    Tally {
-        compared: 0,
-        other: 0,
-        open: 0,
-    }
-}
-
-fn add(a: usize, b: usize) -> usize {
-    std::num::wrapping_add_usize(a, b)
-}
-
 fn sum(a: Tally, b: Tally) -> Tally {
     Tally {
-        compared: add(a.compared, b.compared),
-        other: add(a.other, b.other),
-        open: add(a.open, b.open),
+        compared: a.compared.wrapping_add(b.compared),
+        other: a.other.wrapping_add(b.other),
+        open: a.open.wrapping_add(b.open),
     }
 }
 
 // Bytes that are not a book are not compared.
 fn compared(bytes: &[u8], cells: &mut [u16]) -> Tally {
     match book::read(bytes, cells) {
-        Written::Refused(r) => {
+        Ok(n) if n <= cells.len() => agree::book(&cells[..n], Wrong::Nothing),
+        Ok(_) => Tally::default(),
+        Err(r) => {
             trial::refusal(r);
             trial::text(b"\n");
-            none()
-        }
-        Written::Count(n) => {
-            if n > cells.len() {
-                return none();
-            }
-            agree::book(&cells[..n], 0)
+            Tally::default()
         }
     }
 }
 
 fn books(bytes: &[u8], cells: &mut [u16]) -> Tally {
-    let mut total = none();
+    let mut total = Tally::default();
     let mut at: usize = 0;
     while at < bytes.len() {
         trial::text(b"book:");
         let part = trial::part_at(bytes, at);
-        let start = part.start;
-        let end = part.end;
-        total = sum(total, compared(&bytes[start..end], cells));
-        at = end;
+        total = sum(total, compared(&bytes[part.start..part.end], cells));
+        at = part.end;
     }
     total
 }
 
 fn bracket(cells: &mut [u16]) {
-    book::read(
+    let _ = book::read(
         b"\x01\x04\x01\x06\x02\x00\x01\x00\x03\x00\x04\x06\x00\x03\x00\x00\x03\x00\x04\x06\x00\x01\x00\x00\x00\x00\x00\x00\x0c\x05\x00\x00\x05\x04\x00\x05\x00\x00\x00",
         cells,
     );

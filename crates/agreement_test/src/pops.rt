@@ -5,7 +5,7 @@
 // A cost is a number of symbols; 1,001 stands for more than 1,000, and 1,002 for none.
 ghost use Rattle.std.specs.Prelude.{◌<◌, ◌≤◌};
 
-use crate::tables;
+use crate::tables::{self, Act};
 
 pub const UNREACHED: u16 = 1002;
 
@@ -13,16 +13,10 @@ pub const UNREACHED: u16 = 1002;
 const MOST: usize = 1000;
 
 pub fn plus(a: u16, b: u16) -> u16 {
-    if a >= 1002 {
-        return 1002;
+    if a >= UNREACHED || b >= UNREACHED {
+        return UNREACHED;
     }
-    if b >= 1002 {
-        return 1002;
-    }
-    if a + b > 1000 {
-        return 1001;
-    }
-    a + b
+    (a + b).min(1001)
 }
 
 pub fn cost_over(over: &[u16; 65536], x: usize, y: usize) -> u16
@@ -78,24 +72,19 @@ fn lower_to(dist: &mut [u16; 256], x: usize, v: u16) -> bool
 fn go(tables: &[u16; 768], over: &mut [u16; 65536], x: usize, a: usize, y: usize, v: u16) -> bool
     requires { (x < 256) × (a < 8) × (y < 8) }
 {
-    let g = tables::wide(tables::goto_of(tables, (x / 8) as u16, a as u16));
-    if g == 0 {
+    let Some(q) = tables::goto_of(tables, (x / 8) as u16, a as u16) else {
         return false;
-    }
-    if g > 32 {
-        return false;
-    }
-    lower_over(over, x, (g - 1) * 8 + y, v)
+    };
+    let q = tables::wide(q);
+    q < 32 && lower_over(over, x, q * 8 + y, v)
 }
 
 // A shift from x to the state q: any lookahead may follow.
 fn begin_shift(over: &mut [u16; 65536], x: usize, q: usize, t: usize)
     requires { (x < 256) × (q < 32) × (t ≤ 8) }
 {
-    let mut z: usize = 0;
-    while z < t {
+    for z in 0..t {
         lower_over(over, x, q * 8 + z, 1);
-        z += 1;
     }
 }
 
@@ -126,29 +115,26 @@ fn begin_reduction(
 fn begin(tables: &[u16; 768], t: usize, over: &mut [u16; 65536], pops: &mut [u16; 524288], x: usize)
     requires { (t ≤ 8) × (x < 256) }
 {
-    let code = tables::action(tables, (x / 8) as u16, x % 8);
-    if code < 2 {
-        return;
-    }
-    let v = code / 2 - 1;
-    if code % 2 == 1 {
-        let a = tables::wide(tables::left_side(tables, v));
-        begin_reduction(tables, over, pops, x, a, tables::length_of(tables, v));
-        return;
-    }
-    let q = tables::wide(v);
-    if q < 32 {
-        begin_shift(over, x, q, t);
+    match tables::action_of(tables, x) {
+        Act::Shift(q) => {
+            let q = tables::wide(q);
+            if q < 32 {
+                begin_shift(over, x, q, t);
+            }
+        }
+        Act::Reduce(p) => {
+            let a = tables::wide(tables::left_side(tables, p));
+            begin_reduction(tables, over, pops, x, a, tables::length_of(tables, p));
+        }
+        _ => {}
     }
 }
 
 fn begin_all(tables: &[u16; 768], t: usize, over: &mut [u16; 65536], pops: &mut [u16; 524288])
     requires { t ≤ 8 }
 {
-    let mut x: usize = 0;
-    while x < 256 {
+    for x in 0..256 {
         begin(tables, t, over, pops, x);
-        x += 1;
     }
 }
 
@@ -184,12 +170,8 @@ fn carry_all(
     requires { (x < 256) × (y < 256) }
 {
     let mut changed = false;
-    let mut e: usize = 0;
-    while e < 2048 {
-        if carry(tables, over, pops, x, e, plus(v, cost_of_pop(pops, y, e))) {
-            changed = true;
-        }
-        e += 1;
+    for e in 0..2048 {
+        changed |= carry(tables, over, pops, x, e, plus(v, cost_of_pop(pops, y, e)));
     }
     changed
 }
@@ -210,10 +192,7 @@ fn follow(
         return false;
     }
     let nearer = lower_to(dist, y, plus(cost_to(dist, x), v));
-    if carry_all(tables, over, pops, x, y, v) {
-        return true;
-    }
-    nearer
+    carry_all(tables, over, pops, x, y, v) || nearer
 }
 
 fn follow_all(
@@ -226,12 +205,8 @@ fn follow_all(
     requires { x < 256 }
 {
     let mut changed = false;
-    let mut y: usize = 0;
-    while y < 256 {
-        if follow(tables, over, pops, dist, x, y) {
-            changed = true;
-        }
-        y += 1;
+    for y in 0..256 {
+        changed |= follow(tables, over, pops, dist, x, y);
     }
     changed
 }
@@ -244,12 +219,8 @@ fn pass(
     dist: &mut [u16; 256],
 ) -> bool {
     let mut changed = false;
-    let mut x: usize = 0;
-    while x < 256 {
-        if follow_all(tables, over, pops, dist, x) {
-            changed = true;
-        }
-        x += 1;
+    for x in 0..256 {
+        changed |= follow_all(tables, over, pops, dist, x);
     }
     changed
 }
@@ -258,10 +229,8 @@ fn pass(
 fn start(dist: &mut [u16; 256], t: usize)
     requires { t ≤ 8 }
 {
-    let mut z: usize = 0;
-    while z < t {
+    for z in 0..t {
         lower_to(dist, z, 0);
-        z += 1;
     }
 }
 
@@ -277,12 +246,10 @@ pub fn distances(
     let mut pops = [UNREACHED; 524288];
     begin_all(tables, t, over, &mut pops);
     start(dist, t);
-    let mut k: usize = 0;
-    while k < MOST {
+    for _ in 0..MOST {
         if !pass(tables, over, &mut pops, dist) {
             return true;
         }
-        k += 1;
     }
     false
 }

@@ -1,7 +1,7 @@
 // The second finder's first road: all sentences in order, run on the machine. The first that reaches a pair, or with which its reduction
 // breaks, is the shortest and first.
 // Pair (q, z) has number q * 8 + z; its sentence stands at 1,024 times that number.
-ghost use Rattle.std.specs.Prelude.{◌+◌, ◌<◌, ◌≤◌, length};
+ghost use Rattle.std.specs.Prelude.{IfSome, ◌+◌, ◌<◌, ◌≤◌, length};
 
 use crate::{follow, tables};
 
@@ -19,20 +19,10 @@ pub fn has(set: u32, q: usize) -> bool
     (set >> q) % 2 == 1
 }
 
-fn put_symbol(words: &mut [u8; 262144], at: usize, v: u8)
-    requires { at < 262144 }
-{
-    words[at] = v;
-}
-
 pub fn store(words: &mut [u8; 262144], start: usize, w: &[u8])
     requires { (start ≤ 261120) × (length w.now ≤ 1000) }
 {
-    let mut i: usize = 0;
-    while i < w.len() {
-        put_symbol(words, start + i, w[i]);
-        i += 1;
-    }
+    words[start..start + w.len()].copy_from_slice(w);
 }
 
 // The length of w for pair k, if it has none yet. Answers whether it had none.
@@ -58,12 +48,10 @@ fn keep(least: &mut [u16; 256], words: &mut [u8; 262144], k: usize, w: &[u8])
 fn note(least: &mut [u16; 256], words: &mut [u8; 262144], set: u32, z: usize, w: &[u8])
     requires { (z < 8) × (length w.now ≤ 1000) }
 {
-    let mut q: usize = 0;
-    while q < 32 {
+    for q in 0..32 {
         if has(set, q) {
             keep(least, words, q * 8 + z, w);
         }
-        q += 1;
     }
 }
 
@@ -79,10 +67,8 @@ fn leave_open(least: &mut [u16; 256], k: usize)
 fn give_up(least: &mut [u16; 256], z: usize)
     requires { z < 8 }
 {
-    let mut q: usize = 0;
-    while q < 32 {
+    for q in 0..32 {
         leave_open(least, q * 8 + z);
-        q += 1;
     }
 }
 
@@ -91,16 +77,17 @@ pub fn noted(
     tables: &[u16; 768],
     breaks: bool,
     stack: &[u16; 4096],
-    depth: usize,
+    depth: Option<usize>,
     tops: u32,
     z: usize,
 ) -> u32
-    requires { depth < 4096 }
+    requires { IfSome depth (λ d. (1 ≤ d) × (d < 4096)) }
 {
     if breaks {
-        return follow::broken(tables, stack, depth, z);
+        follow::broken(tables, stack, depth, z)
+    } else {
+        tops
     }
-    tops
 }
 
 fn try_with(
@@ -134,27 +121,8 @@ fn try_each(
 )
     requires { (t ≤ 8) × (length w.now ≤ 1000) }
 {
-    let mut z: usize = 0;
-    while z < t {
+    for z in 0..t {
         try_with(tables, breaks, stack, w, z, least, words);
-        z += 1;
-    }
-}
-
-fn try_front(
-    tables: &[u16; 768],
-    breaks: bool,
-    t: usize,
-    stack: &mut [u16; 4096],
-    word: &[u8],
-    n: usize,
-    least: &mut [u16; 256],
-    words: &mut [u8; 262144],
-)
-    requires { (t ≤ 8) × (n ≤ 1000) }
-{
-    if n <= word.len() {
-        try_each(tables, breaks, t, stack, &word[..n], least, words);
     }
 }
 
@@ -171,7 +139,7 @@ fn try_word(
 )
     requires { (t ≤ 8) × (n ≤ 1000) }
 {
-    try_front(tables, breaks, t, stack, word, n, least, words);
+    try_each(tables, breaks, t, stack, &word[..n], least, words);
 }
 
 // Raises a symbol, or sets it back to 1 where it is the last terminal. Answers whether it was raised.
@@ -192,9 +160,7 @@ fn next(word: &mut [u8; 1000], n: usize, last: u8) -> usize
     requires { n ≤ 1000 }
     ensures { result ≤ n + 1 }
 {
-    let mut i = n;
-    while i > 0 {
-        i -= 1;
+    for i in (0..n).rev() {
         if raise(word, i, last) {
             return n;
         }
@@ -202,20 +168,12 @@ fn next(word: &mut [u8; 1000], n: usize, last: u8) -> usize
     n + 1
 }
 
-fn forget_one(tables: &[u16; 768], least: &mut [u16; 256], k: usize)
-    requires { k < 256 }
-{
-    if !tables::is_error(tables, k) {
-        least[k] = NONE;
-    }
-}
-
 // Keeps what reached pairs with an error action.
 pub fn forget(tables: &[u16; 768], least: &mut [u16; 256]) {
-    let mut k: usize = 0;
-    while k < 256 {
-        forget_one(tables, least, k);
-        k += 1;
+    for (k, n) in least.iter_mut().enumerate() {
+        if !tables::is_error(tables, k) {
+            *n = NONE;
+        }
     }
 }
 
@@ -232,8 +190,7 @@ pub fn try_all(
     let mut stack = [0u16; 4096];
     let mut word = [1u8; 1000];
     let mut n: usize = 0;
-    let mut k: usize = 0;
-    while k < MOST {
+    for _ in 0..MOST {
         if n > 1000 {
             return n;
         }
@@ -243,7 +200,6 @@ pub fn try_all(
             return 1002;
         }
         n = next(&mut word, n, (t - 1) as u8);
-        k += 1;
     }
     n
 }

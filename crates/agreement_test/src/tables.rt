@@ -14,16 +14,7 @@ pub fn wide(v: u16) -> usize
 
 // The number at a place, 0 past the end.
 pub fn number_at(cells: &[u16], at: usize) -> u16 {
-    if at < cells.len() {
-        return cells[at];
-    }
-    0
-}
-
-pub fn put(to: &mut [u16; 768], at: usize, v: u16)
-    requires { at < 768 }
-{
-    to[at] = v;
+    if at < cells.len() { cells[at] } else { 0 }
 }
 
 // Lays out rows of numbers, which stand one after another in the cells from a place on. Answers the place after them.
@@ -38,15 +29,12 @@ pub fn lay_out(
     requires { (from ≤ 4096) × (rows ≤ 32) × (base ≤ 512) }
     ensures { result ≤ from + 256 }
 {
-    let end = rows * 8;
     let mut at = from;
-    let mut k: usize = 0;
-    while k < end {
+    for k in 0..rows * 8 {
         if k % 8 < width {
-            put(to, base + k, number_at(cells, at));
+            to[base + k] = number_at(cells, at);
             at += 1;
         }
-        k += 1;
     }
     at
 }
@@ -66,56 +54,58 @@ pub fn tables_of(cells: &[u16], t: usize, n: usize, s: usize, p: usize) -> [u16;
 fn entry(tables: &[u16; 768], base: usize, row: usize, column: usize) -> u16
     requires { base ≤ 512 }
 {
-    if row >= 32 {
-        return 0;
-    }
-    if column >= 8 {
+    if row >= 32 || column >= 8 {
         return 0;
     }
     tables[base + row * 8 + column]
 }
 
-pub fn action(tables: &[u16; 768], q: u16, a: usize) -> u16 {
-    entry(tables, 0, wide(q), a)
+// What an action does: shifts to a state, or reduces a production.
+#[derive(Clone, Copy)]
+pub enum Act {
+    Error,
+    Accept,
+    Shift(u16),
+    Reduce(u16),
 }
 
-fn code_of(tables: &[u16; 768], k: usize) -> u16
+pub fn action(tables: &[u16; 768], q: u16, a: usize) -> Act {
+    let code = entry(tables, 0, wide(q), a);
+    if code == 0 {
+        return Act::Error;
+    }
+    if code == 1 {
+        return Act::Accept;
+    }
+    let v = code / 2 - 1;
+    if code % 2 == 0 {
+        Act::Shift(v)
+    } else {
+        Act::Reduce(v)
+    }
+}
+
+// The action of pair k, which is (k / 8, k % 8).
+pub fn action_of(tables: &[u16; 768], k: usize) -> Act
     requires { k < 256 }
 {
     action(tables, (k / 8) as u16, k % 8)
 }
 
-// Whether the action of pair k, which is (k / 8, k % 8), is error.
 pub fn is_error(tables: &[u16; 768], k: usize) -> bool
     requires { k < 256 }
 {
-    code_of(tables, k) == 0
+    matches!(action_of(tables, k), Act::Error)
 }
 
-// .. or a reduction.
 pub fn reduces(tables: &[u16; 768], k: usize) -> bool
     requires { k < 256 }
 {
-    let code = code_of(tables, k);
-    if code < 2 {
-        return false;
-    }
-    code % 2 == 1
+    matches!(action_of(tables, k), Act::Reduce(_))
 }
 
-// The production that pair k reduces.
-pub fn production(tables: &[u16; 768], k: usize) -> u16
-    requires { k < 256 }
-{
-    let code = code_of(tables, k);
-    if code < 2 {
-        return 0;
-    }
-    code / 2 - 1
-}
-
-pub fn goto_of(tables: &[u16; 768], q: u16, x: u16) -> u16 {
-    entry(tables, GOTOS, wide(q), wide(x))
+pub fn goto_of(tables: &[u16; 768], q: u16, x: u16) -> Option<u16> {
+    entry(tables, GOTOS, wide(q), wide(x)).checked_sub(1)
 }
 
 pub fn left_side(tables: &[u16; 768], p: u16) -> u16 {

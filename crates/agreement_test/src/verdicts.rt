@@ -5,53 +5,42 @@ use crate::pops::UNREACHED;
 use crate::sentences::{NONE, UNKNOWN, has, noted};
 use crate::{follow, tables};
 
-pub const SAME: u8 = 1;
-
-pub const OTHER: u8 = 2;
-
-pub const OPEN: u8 = 3;
-
-// The verdict before anything is compared, 0 for what is no pair of a book of s states and t terminals.
-fn at_first(s: usize, t: usize, k: usize, least: &[u16; 256]) -> u8
-    requires { k < 256 }
-{
-    if k / 8 >= s {
-        return 0;
-    }
-    if k % 8 >= t {
-        return 0;
-    }
-    if least[k] == UNKNOWN {
-        return OPEN;
-    }
-    SAME
+#[derive(Clone, Copy, PartialEq, Eq)]
+pub enum Verdict {
+    // No pair of the book.
+    NoPair,
+    Same,
+    Other,
+    Open,
 }
 
-fn put(verdicts: &mut [u8; 256], k: usize, v: u8)
+// The verdict before anything is compared, in a book of s states and t terminals.
+fn at_first(s: usize, t: usize, k: usize, least: &[u16; 256]) -> Verdict
     requires { k < 256 }
 {
-    verdicts[k] = v;
+    if k / 8 >= s || k % 8 >= t {
+        Verdict::NoPair
+    } else if least[k] == UNKNOWN {
+        Verdict::Open
+    } else {
+        Verdict::Same
+    }
 }
 
-pub fn begin(s: usize, t: usize, least: &[u16; 256]) -> [u8; 256] {
-    let mut verdicts = [0u8; 256];
-    let mut k: usize = 0;
-    while k < 256 {
-        put(&mut verdicts, k, at_first(s, t, k, least));
-        k += 1;
+pub fn begin(s: usize, t: usize, least: &[u16; 256]) -> [Verdict; 256] {
+    let mut verdicts = [Verdict::NoPair; 256];
+    for (k, v) in verdicts.iter_mut().enumerate() {
+        *v = at_first(s, t, k, least);
     }
     verdicts
 }
 
 // Pair k is the same so far; it stays so if the answers agree.
-pub fn judge(verdicts: &mut [u8; 256], k: usize, agree: bool)
+pub fn judge(verdicts: &mut [Verdict; 256], k: usize, agree: bool)
     requires { k < 256 }
 {
-    if verdicts[k] != SAME {
-        return;
-    }
-    if !agree {
-        verdicts[k] = OTHER;
+    if verdicts[k] == Verdict::Same && !agree {
+        verdicts[k] = Verdict::Other;
     }
 }
 
@@ -60,9 +49,10 @@ fn fits(cells: &[u16; 256], least: &[u16; 256], k: usize, tried: usize) -> bool
     requires { k < 256 }
 {
     if least[k] == NONE {
-        return tables::wide(cells[k]) >= tried;
+        tables::wide(cells[k]) >= tried
+    } else {
+        cells[k] == least[k]
     }
-    cells[k] == least[k]
 }
 
 fn equal(cells: &[u16; 256], dist: &[u16; 256], k: usize) -> bool
@@ -79,25 +69,12 @@ fn told(masks: &[u32; 128], dist: &[u16; 256], k: usize) -> bool
     bit == (dist[k] < UNREACHED)
 }
 
-fn same_symbol(a: &[u8; 262144], b: &[u8; 262144], at: usize) -> bool
-    requires { at < 262144 }
-{
-    a[at] == b[at]
-}
-
 // Whether pair k has the same n symbols in both.
 fn same_symbols(a: &[u8; 262144], b: &[u8; 262144], k: usize, n: usize) -> bool
     requires { (k < 256) × (n ≤ 1000) }
 {
     let start = k * 1024;
-    let mut i: usize = 0;
-    while i < n {
-        if !same_symbol(a, b, start + i) {
-            return false;
-        }
-        i += 1;
-    }
-    true
+    a[start..start + n] == b[start..start + n]
 }
 
 // The length of the sentence that was found for pair k, 0 for none.
@@ -106,10 +83,7 @@ fn length_at(least: &[u16; 256], k: usize) -> usize
     ensures { result ≤ 1000 }
 {
     let n = tables::wide(least[k]);
-    if n > 1000 {
-        return 0;
-    }
-    n
+    if n > 1000 { 0 } else { n }
 }
 
 // Whether the n symbols from a place on reach pair k, or make it break.
@@ -137,10 +111,7 @@ fn sound(
     requires { k < 256 }
 {
     let n = tables::wide(lengths[k]);
-    if n > 1000 {
-        return true;
-    }
-    brings(tables, breaks, k, theirs, k * 1024, n)
+    n > 1000 || brings(tables, breaks, k, theirs, k * 1024, n)
 }
 
 // Whether the library's length and sentence for pair k are those of the second finder.
@@ -157,16 +128,10 @@ fn found(
 ) -> bool
     requires { k < 256 }
 {
-    if !fits(lengths, least, k, tried) {
-        return false;
-    }
-    if !equal(lengths, dist, k) {
-        return false;
-    }
-    if !same_symbols(words, theirs, k, length_at(least, k)) {
-        return false;
-    }
-    sound(tables, breaks, lengths, theirs, k)
+    fits(lengths, least, k, tried)
+        && equal(lengths, dist, k)
+        && same_symbols(words, theirs, k, length_at(least, k))
+        && sound(tables, breaks, lengths, theirs, k)
 }
 
 // Whether the library says of pair k, by the map, by find and by the sets, what the second finder says.
@@ -184,16 +149,10 @@ fn agrees(
 ) -> bool
     requires { k < 256 }
 {
-    if !fits(map, least, k, tried) {
-        return false;
-    }
-    if !equal(map, dist, k) {
-        return false;
-    }
-    if !told(masks, dist, k) {
-        return false;
-    }
-    found(tables, false, tried, least, words, dist, lengths, theirs, k)
+    fits(map, least, k, tried)
+        && equal(map, dist, k)
+        && told(masks, dist, k)
+        && found(tables, false, tried, least, words, dist, lengths, theirs, k)
 }
 
 pub fn by_pairs(
@@ -206,10 +165,9 @@ pub fn by_pairs(
     lengths: &[u16; 256],
     theirs: &[u8; 262144],
     masks: &[u32; 128],
-    verdicts: &mut [u8; 256],
+    verdicts: &mut [Verdict; 256],
 ) {
-    let mut k: usize = 0;
-    while k < 256 {
+    for k in 0..256 {
         judge(
             verdicts,
             k,
@@ -217,7 +175,6 @@ pub fn by_pairs(
                 tables, tried, least, words, dist, map, lengths, theirs, masks, k,
             ),
         );
-        k += 1;
     }
 }
 
@@ -234,10 +191,11 @@ fn agrees_break(
 ) -> bool
     requires { k < 256 }
 {
-    if !tables::reduces(tables, k) {
-        return lengths[k] == UNREACHED;
+    if tables::reduces(tables, k) {
+        found(tables, true, tried, least, words, costs, lengths, theirs, k)
+    } else {
+        lengths[k] == UNREACHED
     }
-    found(tables, true, tried, least, words, costs, lengths, theirs, k)
 }
 
 pub fn by_breaks(
@@ -248,36 +206,23 @@ pub fn by_breaks(
     costs: &[u16; 256],
     lengths: &[u16; 256],
     theirs: &[u8; 262144],
-    verdicts: &mut [u8; 256],
+    verdicts: &mut [Verdict; 256],
 ) {
-    let mut k: usize = 0;
-    while k < 256 {
+    for k in 0..256 {
         judge(
             verdicts,
             k,
             agrees_break(tables, tried, least, words, costs, lengths, theirs, k),
         );
-        k += 1;
-    }
-}
-
-fn open_one(least: &[u16; 256], verdicts: &mut [u8; 256], k: usize)
-    requires { k < 256 }
-{
-    if verdicts[k] != SAME {
-        return;
-    }
-    if least[k] == UNKNOWN {
-        verdicts[k] = OPEN;
     }
 }
 
 // What is not known of a pair cannot be compared.
-pub fn leave_open(least: &[u16; 256], verdicts: &mut [u8; 256]) {
-    let mut k: usize = 0;
-    while k < 256 {
-        open_one(least, verdicts, k);
-        k += 1;
+pub fn leave_open(least: &[u16; 256], verdicts: &mut [Verdict; 256]) {
+    for (k, v) in verdicts.iter_mut().enumerate() {
+        if *v == Verdict::Same && least[k] == UNKNOWN {
+            *v = Verdict::Open;
+        }
     }
 }
 
@@ -285,15 +230,10 @@ pub fn leave_open(least: &[u16; 256], verdicts: &mut [u8; 256]) {
 fn members(dist: &[u16; 256], q: usize) -> u32
     requires { q < 32 }
 {
-    let mut n: u32 = 0;
-    let mut z: usize = 0;
-    while z < 8 {
-        if dist[q * 8 + z] < UNREACHED {
-            n += 1;
-        }
-        z += 1;
-    }
-    n
+    dist[q * 8..q * 8 + 8]
+        .iter()
+        .filter(|d| **d < UNREACHED)
+        .count() as u32
 }
 
 fn counted(sizes: &[u32; 128], dist: &[u16; 256], q: usize) -> bool
@@ -303,11 +243,9 @@ fn counted(sizes: &[u32; 128], dist: &[u16; 256], q: usize) -> bool
 }
 
 // The size of a state's set counts for its pair with lookahead 0.
-pub fn by_sizes(sizes: &[u32; 128], dist: &[u16; 256], verdicts: &mut [u8; 256]) {
-    let mut q: usize = 0;
-    while q < 32 {
+pub fn by_sizes(sizes: &[u32; 128], dist: &[u16; 256], verdicts: &mut [Verdict; 256]) {
+    for q in 0..32 {
         judge(verdicts, q * 8, counted(sizes, dist, q));
-        q += 1;
     }
 }
 
@@ -315,28 +253,12 @@ pub fn by_sizes(sizes: &[u32; 128], dist: &[u16; 256], verdicts: &mut [u8; 256])
 pub fn below(cells: &[u16; 256], mark: u16) -> usize
     ensures { result ≤ 256 }
 {
-    let mut n: usize = 0;
-    let mut k: usize = 0;
-    while k < 256 {
-        if cells[k] < mark {
-            n += 1;
-        }
-        k += 1;
-    }
-    n
+    cells.iter().filter(|c| **c < mark).count()
 }
 
 // How many pairs have the verdict v.
-pub fn count(verdicts: &[u8; 256], v: u8) -> usize
+pub fn count(verdicts: &[Verdict; 256], v: Verdict) -> usize
     ensures { result ≤ 256 }
 {
-    let mut n: usize = 0;
-    let mut k: usize = 0;
-    while k < 256 {
-        if verdicts[k] == v {
-            n += 1;
-        }
-        k += 1;
-    }
-    n
+    verdicts.iter().filter(|x| **x == v).count()
 }

@@ -15,11 +15,7 @@ fn put(layer: &[u16; 4096], n: usize, due: &mut [u16; 131072], at: usize)
     requires { (length layer.now ≡ 4096) × (n ≤ 4096) × (length due.old ≡ 131072) × (at + n ≤ 131072) }
     ensures { due.new ≡ paste due.old at layer.now n }
 {
-    let mut k: usize = 0;
-    while k < n {
-        due[at + k] = layer[k];
-        k += 1;
-    }
+    due[at..at + n].copy_from_slice(&layer[..n]);
 }
 
 // The layers of fewer than len transitions to (s, z), one after the other, and that of len.
@@ -41,10 +37,8 @@ pub fn layers_to(
 {
     only(s, z, layer);
     let n = d.s * 32;
-    let mut m: usize = 0;
-    while m < len {
+    for m in 0..len {
         put(layer, n, due, m * 4096);
         sooner(cells, d, table, rows, layer);
-        m += 1;
     }
 }

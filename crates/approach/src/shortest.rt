@@ -10,10 +10,8 @@ fn over_start(togo: &[u16; 4096], due: &[u16], len: usize, a: usize) -> u16
     ensures { result ≡ least_over togo.now due.now len a }
 {
     let mut r = togo[a];
-    let mut m: usize = 0;
-    while m < len {
+    for m in 0..len {
         r = least(due[m * 4096 + a], r);
-        m += 1;
     }
     r
 }
@@ -24,10 +22,8 @@ pub fn start_cost(togo: &[u16; 4096], due: &[u16], len: usize, t: usize) -> u16
     ensures { Lowest (least_over togo.now due.now len) t result }
 {
     let mut r = over_start(togo, due, len, 0);
-    let mut a: usize = 1;
-    while a < t {
+    for a in 1..t {
         r = least(r, over_start(togo, due, len, a));
-        a += 1;
     }
     r
 }

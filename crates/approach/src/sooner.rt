@@ -27,10 +27,9 @@ fn sooner_at(
     requires marked { Marked plain d.t flags.now layer.now }
     ensures { SoonerAt plain (tables_of cells.now) (claim_in d table.now) (distance_in plain layer.now) k result }
 {
-    let t = d.t;
     let q = k / 32;
     let a = k % 32;
-    if a >= t {
+    if a >= d.t {
         return UNREACHED;
     }
     if rows[q * 32 + a] == 0 {
@@ -46,14 +45,10 @@ pub fn sooner(cells: &[u16], d: Sizes, table: &[u16], rows: &[u8; 4096], layer: 
     ensures bounded_2 { Bounded plain d.t layer.new }
     ensures sooner_layer { SoonerLayer plain (tables_of cells.now) (claim_in d table.now) (distance_in plain layer.old) (entry_in layer.new) }
 {
-    let t = d.t;
     let mut flags = [0u8; 128];
-    mark(layer, t, &mut flags);
+    mark(layer, d.t, &mut flags);
     let old = *layer;
-    let end = d.s * 32;
-    let mut k: usize = 0;
-    while k < end {
+    for k in 0..d.s * 32 {
         layer[k] = sooner_at(cells, d, table, rows, &old, &flags, k);
-        k += 1;
     }
 }

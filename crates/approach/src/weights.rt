@@ -33,11 +33,8 @@ fn without_gotos(cells: &[u16], d: Sizes, x: usize, layer: &mut [u16; 4096])
     requires x_lt_n { (x < d.n) × (length layer.old ≡ 4096) }
     ensures { layer.new ≡ without_rows plain (tables_of cells.now) x layer.old d.s }
 {
-    let states = d.s;
-    let mut q: usize = 0;
-    while q < states {
+    for q in 0..d.s {
         without_goto(cells, d, x, layer, q);
-        q += 1;
     }
 }
 

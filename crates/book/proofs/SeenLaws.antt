@@ -1,13 +1,12 @@
 -- Laws of ranks: the set of those seen tells which are there already, and ranks by number suit. Assumes nothing.
-use Rattle.std.specs.Prelude.{Bool, true, false, cond, ◌||◌, List, [], ◌∷◌, ◌++◌, ◌≡◌, refl, ℕ, zero, suc, ◌^◌, ◌≤◌, ◌<◌, eqb, ltb, length, take}
+use Rattle.number.specs.Number.{Number}
+use Rattle.std.specs.Prelude.{Ok, Err, Bool, true, false, cond, ◌||◌, List, [], ◌∷◌, ◌++◌, ◌≡◌, refl, ℕ, zero, suc, ◌^◌, ◌≤◌, ◌<◌, eqb, ltb, length, take}
 use Rattle.std.proofs.Common.{◌∙◌, arith, le-ltb, lt-ltb, ne_eqb, length-append, take_all}
 use Rattle.std.proofs.Math.Decide.{dec_lt, ℕ_discrete}
 use Rattle.std.specs.Int.Bits.{bit_or}
 use Rattle.std.proofs.lemmas.List.{take-append-le}
 use Rattle.number.specs.Lent.{firsts}
 use Rattle.number.specs.LentLaws.{firsts-length, firsts-entry}
-use Rattle.number.specs.declared.Number.{Number}
-use Rattle.number.specs.declared.Number.TheVariants.{Value, Refused}
 use Rattle.sets.specs.Bits.{member}
 use Rattle.sets.specs.SetLaws.{member-put, member-none}
 use Rattle.book.specs.Book.{admitted}
@@ -70,8 +69,8 @@ marks-fits d Gotos set seen i v h m = refl
 pub marks-admitted : (d : Sizes) (part : Part) (set i : ℕ) (seen : List ℕ) (at : ℕ) (found : Number) → d.t ≤ 32 → Marks part set seen → length seen ≡ i
     → admitted (fault_among d part i (member set)) at found ≡ admitted (fault d part seen) at found
 unfolding fault
-marks-admitted d part set i seen at (Refused r) h m e = refl
-marks-admitted d part set i seen at (Value v next) h m e = rw (e, marks-fits d part set seen i v h m)
+marks-admitted d part set i seen at (Err r) h m e = refl
+marks-admitted d part set i seen at (Ok (v, next)) h m e = rw (e, marks-fits d part set seen i v h m)
 
 -- ---- ranks by number
 among-firsts : (i n : ℕ) → n ≤ i → among i (firsts (λ k. k) n) ≡ false

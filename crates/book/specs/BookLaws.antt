@@ -1,5 +1,5 @@
 -- Laws of the book as a whole: its verdict, part by part. Assumes nothing.
-use Rattle.std.specs.Prelude.{◌≡◌, refl, cond, ℕ, ◌+◌, ◌≤◌, ◌<◌, ltb, length, get_or, take, drop, replicate}
+use Rattle.std.specs.Prelude.{⊤, Result, Ok, Err, ◌≡◌, refl, cond, ℕ, ◌+◌, ◌≤◌, ◌<◌, ltb, length, get_or, take, drop, replicate}
 use Rattle.std.proofs.Common.{sym, ◌∙◌, ap₂, add-zero, arith, le-ltb, le-leb, length-append, length-drop, take-append-drop, get_or-take, take_all}
 use Rattle.std.proofs.Math.Path.{ap}
 use mathlib.Core.List.{List, [], ◌++◌, append-nil}
@@ -8,29 +8,38 @@ use Rattle.std.proofs.lemmas.Bool.{lt-leb}
 use Rattle.std.proofs.Math.ListN.{get_or-append}
 use Rattle.number.specs.TestLaws.{tests}
 use Rattle.number.specs.Lent.{over}
-use Rattle.number.specs.Number.{value}
+use Rattle.number.specs.Number.{Number, value}
 use Rattle.number.specs.NumberLaws.{value-is, refused-not-value}
 use Rattle.number.specs.declared.Cursor.{Cursor}
-use Rattle.number.specs.declared.Number.{Number}
-use Rattle.number.specs.declared.Number.TheVariants.{Value, Refused}
-use Rattle.number.specs.declared.Refusal.{Refusal}
+use Rattle.number.specs.Number.{refused_at}
+use Rattle.number.specs.declared.cause.Cause.{Cause}
+use Rattle.number.specs.declared.cause.Refusal.{Refusal}
 use Rattle.book.specs.Book.{cell_at, Row, read, refused, before, part_in, parts_in, joined, body, whole, book_in, of_cells, checked, delivered}
+use Rattle.book.specs.Call.{step}
+use Rattle.book.specs.CallLaws.{step-stops, step-passes}
 use Rattle.book.specs.CellsLaws.{Segment, cells-part, cells-parts}
 use Rattle.book.specs.PartsLaws.{total, joined-read, part_length_lem, part-clean, parts-length, values-parts}
 use Rattle.book.specs.Range.{head_lowest, head_highest, fault}
 use Rattle.book.specs.RangeLaws.{Small, body_length, head-range}
 use Rattle.book.specs.RowLaws.{ends, refused-not-read, values, values-row}
 use Rattle.book.specs.Tables.{sizes_of}
-use Rattle.book.specs.declared.Checked.{Checked}
-use Rattle.book.specs.declared.Checked.TheVariants.{Valid, Refused as CheckedRefused}
 use Rattle.book.specs.declared.Part.{Part}
 use Rattle.book.specs.declared.Sizes.{Sizes}
-use Rattle.book.specs.declared.Written.TheVariants.{Count, Refused as WrittenRefused}
 
--- the verdict on a book of the sizes d whose last row ended so
-abbrev pub closing : Sizes → ℕ → Number → Checked
-closing d end (Refused r) = CheckedRefused r
-closing d end (Value v next) = cond (ltb next.at end) (CheckedRefused (record { number = 6; place = next.at })) (Valid d)
+-- the verdict on a book of the sizes d whose last row ended at a place
+abbrev pub closing : Sizes → ℕ → ℕ → Result Sizes Refusal
+closing d end at = cond (ltb at end) (Err (refused_at Cause.Surplus at)) (Ok d)
+
+-- .. or was refused
+abbrev pub closing_row : Sizes → ℕ → Result ℕ Refusal → Result Sizes Refusal
+closing_row d end (Err r) = Err r
+closing_row d end (Ok at) = closing d end at
+
+pub closing-stops : (d : Sizes) (end at : ℕ) {r : Refusal} → Err r ≡ step (ltb at end) Cause.Surplus at → Err r ≡ closing d end at
+closing-stops d end at e = step-stops d (ltb at end) Cause.Surplus at [] e
+
+pub closing-passes : (d : Sizes) (end at : ℕ) {u : ⊤} → Ok u ≡ step (ltb at end) Cause.Surplus at → Ok d ≡ closing d end at
+closing-passes d end at e = rw (step-passes (ltb at end) Cause.Surplus at e)
 
 -- ---- the head
 pub sizes-append : (head body : List ℕ) → length head ≡ 5 → sizes_of (head ++ body) ≡ sizes_of head
@@ -70,30 +79,34 @@ module _ (source : ℕ → Number) (head : List ℕ) (at : ℕ) (e : head_in sou
 
 -- ---- the verdict
 module _ (source : ℕ → Number) (end : ℕ) where
-  pub checked-stop : (r : Refusal) → head_in source ≡ refused r → CheckedRefused r ≡ checked (book_in source end)
+  pub checked-stop : (r : Refusal) → head_in source ≡ refused r → Err r ≡ checked (book_in source end)
   unfolding book_in
   checked-stop r e = rw e
 
   pub checked-on : (head : List ℕ) (at : ℕ) → head_in source ≡ read head at
-      → closing (sizes_of head) end (ends (parts_in source (sizes_of head) body at)) ≡ checked (book_in source end)
+      → closing_row (sizes_of head) end (ends (parts_in source (sizes_of head) body at)) ≡ checked (book_in source end)
   unfolding book_in
   checked-on head at e = rw e (by_row (parts_in source (sizes_of head) body at))
     where
-      by_end : (rest : List ℕ) (next : ℕ) → Dec (next < end) → closing (sizes_of head) end (value 0 next) ≡ checked (whole end (read (head ++ rest) next))
+      by_end : (rest : List ℕ) (next : ℕ) → Dec (next < end) → closing (sizes_of head) end next ≡ checked (whole end (read (head ++ rest) next))
       by_end rest next (yes h) = simp tests
       by_end rest next (no h) = rw (le-ltb next end (omega arith), sizes-append head rest (head-length source head at e))
 
-      by_row : (w : Row) → closing (sizes_of head) end (ends w) ≡ checked (whole end (before head w))
+      by_row : (w : Row) → closing_row (sizes_of head) end (ends w) ≡ checked (whole end (before head w))
       by_row (refused r) = refl
       by_row (read rest next) = by_end rest next (dec_lt next end)
 
--- ---- what the end of a row tells
-pub ends_read : (w : Row) (v : ℕ) (next : Cursor) → ends w ≡ Value v next → (vs : List ℕ) × (w ≡ read vs next.at)
-ends_read (read vs at) v next e = (vs, ap (read vs) (value-is 0 at v next.at e).1)
-ends_read (refused r) v next e = absurd (refused-not-value r v next.at e)
+  pub checked_end : {head : List ℕ} {at : ℕ} {last : Result ℕ Refusal} → head_in source ≡ read head at → last ≡ ends (parts_in source (sizes_of head) body at)
+      → closing_row (sizes_of head) end last ≡ checked (book_in source end)
+  checked_end {head} {at} e f = ap (closing_row (sizes_of head) end) f ∙ checked-on head at e
 
-pub ends-refused : (w : Row) (r : Refusal) → ends w ≡ Refused r → w ≡ refused r
-ends-refused (read vs at) r e = absurd (refused-not-value r 0 at (sym e))
+-- ---- what the end of a row tells
+pub ends_read : (w : Row) (next : ℕ) → ends w ≡ Ok next → (vs : List ℕ) × (w ≡ read vs next)
+ends_read (read vs at) next e = let f : at ≡ next = cc in (vs, ap (read vs) f)
+ends_read (refused r) next e = let z : ◌≡◌ {A = ℕ} 0 1 = cc in absurd (omega arith)
+
+pub ends-refused : (w : Row) (r : Refusal) → ends w ≡ Err r → w ≡ refused r
+ends-refused (read vs at) r e = let z : ◌≡◌ {A = ℕ} 0 1 = cc in absurd (omega arith)
 ends-refused (refused q) r e = cc
 
 -- the head of a source that has one
@@ -106,33 +119,33 @@ pub headed-read : {source : ℕ → Number} {at : ℕ} {head : List ℕ} → hea
 headed-read {source} {at} {head} e = record { is = e; five = head-length source head at e; small = head_small source head at e }
 
 -- it is the first five numbers, which stand alone where they were written over five cells
-pub headed : (source : ℕ → Number) (v : ℕ) (next : Cursor) → ends (head_in source) ≡ Value v next → Headed source next.at (values source 5 0)
-headed source v next e =
-    let (vs, r) = ends_read (head_in source) v next e in
-    rw (head-values source vs next.at r) (headed-read r)
+pub headed : (source : ℕ → Number) (next : ℕ) → ends (head_in source) ≡ Ok next → Headed source next (values source 5 0)
+headed source next e =
+    let (vs, r) = ends_read (head_in source) next e in
+    rw (head-values source vs next r) (headed-read r)
 
 pub headed-over : {source : ℕ → Number} {at : ℕ} {head : List ℕ} → Headed source at head → over head (replicate 5 0) ≡ head
 headed-over h = rw (h.five, append-nil)
 
 -- in cells it is the first five of them
-pub cells-head : (cells : List ℕ) (v : ℕ) (next : Cursor) → ends (head_in (cell_at cells)) ≡ Value v next
-    → (5 ≤ length cells) × Headed (cell_at cells) next.at (take 5 cells)
-cells-head cells v next e =
-    let (vs, r) = ends_read (head_in (cell_at cells)) v next e in
-    let p = cells-part cells (sizes_of []) Part.Head 0 vs next.at r (omega arith) in
-    (omega (arith, p.within), headed-read (r ∙ ap (λ (l : List ℕ). read l next.at) p.part))
+pub cells-head : (cells : List ℕ) (next : ℕ) → ends (head_in (cell_at cells)) ≡ Ok next
+    → (5 ≤ length cells) × Headed (cell_at cells) next (take 5 cells)
+cells-head cells next e =
+    let (vs, r) = ends_read (head_in (cell_at cells)) next e in
+    let p = cells-part cells (sizes_of []) Part.Head 0 vs next r (omega arith) in
+    (omega (arith, p.within), headed-read (r ∙ ap (λ (l : List ℕ). read l next) p.part))
 
-pub checked-cells : (cells : List ℕ) (at : ℕ) → Headed (cell_at cells) at (take 5 cells)
-    → closing (sizes_of cells) (length cells) (ends (parts_in (cell_at cells) (sizes_of cells) body at)) ≡ checked (of_cells cells)
+pub checked-cells : (cells : List ℕ) (at : ℕ) {last : Result ℕ Refusal} → Headed (cell_at cells) at (take 5 cells)
+    → last ≡ ends (parts_in (cell_at cells) (sizes_of cells) body at) → closing_row (sizes_of cells) (length cells) last ≡ checked (of_cells cells)
 unfolding of_cells
-checked-cells cells at h = rw sizes-take at (checked-on (cell_at cells) (length cells) (take 5 cells) at h.is)
+checked-cells cells at {last} h e = rw sizes-take at (checked_end (cell_at cells) (length cells) {last = last} h.is (rw sizes-take e))
 
 -- ---- a book that was read
-pub checked-valid : (w : Row) (d : Sizes) → checked w ≡ Valid d → (cells : List ℕ) × (next : ℕ) × (w ≡ read cells next) × (d ≡ sizes_of cells)
+pub checked-valid : (w : Row) (d : Sizes) → checked w ≡ Ok d → (cells : List ℕ) × (next : ℕ) × (w ≡ read cells next) × (d ≡ sizes_of cells)
 checked-valid (read cells next) d e = (cells, next, refl, cc)
 checked-valid (refused r) d e = absurd (let z : ◌≡◌ {A = ℕ} 0 1 = cc in omega arith)
 
-pub checked-faulty : (w : Row) (r : Refusal) → checked w ≡ CheckedRefused r → w ≡ refused r
+pub checked-faulty : (w : Row) (r : Refusal) → checked w ≡ Err r → w ≡ refused r
 checked-faulty (read cells next) r e = absurd (let z : ◌≡◌ {A = ℕ} 0 1 = cc in omega arith)
 checked-faulty (refused q) r e = cc
 
@@ -215,15 +228,15 @@ whole-end cells w = let (p, q) = whole-segments w in omega (arith, w.closed, q.a
 
 -- ---- what is delivered into lent memory
 module _ (f : List ℕ → List ℕ) (w : Row) (lent : List ℕ) where
-  pub deliver-stop : (r : Refusal) → w ≡ refused r → (WrittenRefused r, lent) ≡ delivered f w lent
+  pub deliver-stop : (r : Refusal) → w ≡ refused r → (Err r, lent) ≡ delivered f w lent
   deliver-stop r e = rw e
 
   pub deliver-short : (cells : List ℕ) (next : ℕ) → w ≡ read cells next → length lent < length (f cells)
-      → (WrittenRefused (record { number = 12; place = 0 }), lent) ≡ delivered f w lent
+      → (Err (refused_at Cause.Output 0), lent) ≡ delivered f w lent
   deliver-short cells next e h = rw (e, lt-leb (length (f cells)) (length lent) h)
 
   pub deliver-whole : (cells : List ℕ) (next n : ℕ) (left : List ℕ) → w ≡ read cells next → n ≡ length (f cells) → n ≤ length lent → left ≡ over (f cells) lent
-      → (Count n, left) ≡ delivered f w lent
+      → (Ok n, left) ≡ delivered f w lent
   deliver-whole cells next n left e c h o = rw (e, o, c, le-leb (length (f cells)) (length lent) (omega arith))
 
 -- ---- a book that was found valid
@@ -235,7 +248,7 @@ pub record Readable (source : ℕ → Number) (end : ℕ) (d : Sizes) : Type 0 w
   pub count : length cells ≡ 5 + body_length d
   pub numbers : values source (5 + body_length d) 0 ≡ cells
 
-pub readable : (source : ℕ → Number) (end : ℕ) (d : Sizes) → checked (book_in source end) ≡ Valid d → Readable source end d
+pub readable : (source : ℕ → Number) (end : ℕ) (d : Sizes) → checked (book_in source end) ≡ Ok d → Readable source end d
 readable source end d e = let (cells, next, is, sizes) = checked-valid (book_in source end) d e in found cells next is sizes
   where
     found : (cells : List ℕ) (next : ℕ) → book_in source end ≡ read cells next → d ≡ sizes_of cells → Readable source end d
@@ -244,7 +257,7 @@ readable source end d e = let (cells, next, is, sizes) = checked-valid (book_in 
         record { cells = cells; next = next; is = is; small = rw sizes (whole-small w); count = rw sizes (whole-count w); numbers = rw sizes (whole-values w) }
 
 -- valid cells are the book that they hold
-pub cells-valid : (cells : List ℕ) (d : Sizes) → checked (of_cells cells) ≡ Valid d → of_cells cells ≡ read cells (length cells)
+pub cells-valid : (cells : List ℕ) (d : Sizes) → checked (of_cells cells) ≡ Ok d → of_cells cells ≡ read cells (length cells)
 unfolding of_cells
 cells-valid cells d e =
     let (out, next, is, sizes) = checked-valid (book_in (cell_at cells) (length cells)) d e in

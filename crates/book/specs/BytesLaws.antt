@@ -1,16 +1,14 @@
 -- Laws of the loops that decode a row into cells and encode cells into bytes. Assumes nothing.
-use Rattle.std.specs.Prelude.{◌≡◌, refl, List, [], ◌∷◌, ◌++◌, ℕ, suc, ◌+◌, ◌*◌, ◌-◌, ◌≤◌, ◌<◌, length, get_or, take, drop, set}
+use Rattle.std.specs.Prelude.{Ok, Err, ◌≡◌, refl, List, [], ◌∷◌, ◌++◌, ℕ, suc, ◌+◌, ◌*◌, ◌-◌, ◌≤◌, ◌<◌, length, get_or, take, drop, set}
 use Rattle.std.proofs.Common.{sym, ◌∙◌, ap, append_assoc, append-nil, add-one, arith, length-append, take-append-drop, take-suc, take_all}
 use Rattle.std.proofs.lemmas.List.Edits.{sets}
 use Rattle.std.proofs.Math.Seq.{get_or-append_seam}
 use Rattle.number.specs.Lent.{over}
 use Rattle.number.specs.LentLaws.{over-more}
-use Rattle.number.specs.Number.{written}
+use Rattle.number.specs.Number.{Number, written}
 use Rattle.number.specs.NumberLaws.{written-most, written_one}
 use Rattle.number.specs.declared.Cursor.{Cursor}
-use Rattle.number.specs.declared.Number.{Number}
-use Rattle.number.specs.declared.Number.TheVariants.{Value, Refused}
-use Rattle.number.specs.declared.Refusal.{Refusal}
+use Rattle.number.specs.declared.cause.Refusal.{Refusal}
 use Rattle.book.specs.Book.{bytes_of}
 use Rattle.book.specs.RowLaws.{values, values-more, values-stop, values-done}
 
@@ -25,7 +23,7 @@ module _ {source : ℕ → Number} {n : ℕ} {lent : List ℕ} where
   pub decoded-none : Decoded source n lent lent 0 0
   decoded-none = let k : n - 0 ≡ n = omega arith in record { done = []; count = refl; front = refl; left = rw k }
 
-  pub decoded-more : {now : List ℕ} {i at v : ℕ} {next : Cursor} → Decoded source n lent now i at → i < n → n ≤ length lent → source at ≡ Value v next
+  pub decoded-more : {now : List ℕ} {i at v : ℕ} {next : Cursor} → Decoded source n lent now i at → i < n → n ≤ length lent → source at ≡ Ok (v, next)
       → Decoded source n lent (set now i v) (i + 1) next.at
   decoded-more {now} {i} {at} {v} {next} d h l e = record {
     done = d.done ++ (v ∷ []);
@@ -35,7 +33,7 @@ module _ {source : ℕ → Number} {n : ℕ} {lent : List ℕ} where
   }
 
   -- the next number is one of those
-  pub decoded-next : {now : List ℕ} {i at v : ℕ} {next : Cursor} → Decoded source n lent now i at → i < n → source at ≡ Value v next → get_or (values source n 0) i 0 ≡ v
+  pub decoded-next : {now : List ℕ} {i at v : ℕ} {next : Cursor} → Decoded source n lent now i at → i < n → source at ≡ Ok (v, next) → get_or (values source n 0) i 0 ≡ v
   decoded-next {now} {i} {at} {v} {next} d h e =
       ap (λ (l : List ℕ). get_or l i 0) d.left
       ∙ rw (values-more source n i at v next h e) (ap (λ (k : ℕ). get_or (d.done ++ (v ∷ values source (n - (i + 1)) next.at)) k 0) (sym d.count) ∙ get_or-append_seam d.done v (values source (n - (i + 1)) next.at) 0)
@@ -46,7 +44,7 @@ module _ {source : ℕ → Number} {n : ℕ} {lent : List ℕ} where
       let whole : values source n 0 ≡ d.done = d.left ∙ ap (λ (r : List ℕ). d.done ++ r) e ∙ append-nil d.done in
       d.front ∙ ap (λ (out : List ℕ). over out lent) (sym whole)
 
-  pub decoded-stop : {now : List ℕ} {i at : ℕ} {r : Refusal} → Decoded source n lent now i at → i < n → source at ≡ Refused r → now ≡ over (values source n 0) lent
+  pub decoded-stop : {now : List ℕ} {i at : ℕ} {r : Refusal} → Decoded source n lent now i at → i < n → source at ≡ Err r → now ≡ over (values source n 0) lent
   decoded-stop {now} {i} {at} {r} d h e = all d (values-stop source n i at r h e)
 
   pub decoded-done : {now : List ℕ} {i at : ℕ} → Decoded source n lent now i at → n ≤ i → now ≡ over (values source n 0) lent

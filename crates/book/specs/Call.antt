@@ -1,22 +1,27 @@
 -- A call: what refuses it before it does anything, and what it answers and leaves. Assumes nothing.
-use Rattle.std.specs.Prelude.{Bool, cond, List, [], ◌∷◌, ◌≡◌, ℕ}
-use Rattle.number.specs.declared.Refusal.{Refusal}
-use Rattle.book.specs.declared.{Checked.Checked, Sizes.Sizes}
+use Rattle.std.specs.Prelude.{⊤, Result, Ok, Err, Bool, cond, List, [], ◌∷◌, ◌≡◌, ℕ}
+use Rattle.number.specs.Number.{refused_at}
+use Rattle.number.specs.declared.{cause.Cause.Cause, cause.Refusal.Refusal}
+use Rattle.book.specs.declared.Sizes.{Sizes}
 
--- one step of an admission: where this holds the call is refused by the number at the place, unless it is refused already
-abbrev pub unless : Checked → Bool → ℕ → ℕ → Checked
-unless (Checked.Refused r) this number place = Checked.Refused r
-unless (Checked.Valid d) this number place = cond this (Checked.Refused (record { number = number; place = place })) (Checked.Valid d)
+-- one step of an admission: where this holds the call is refused for the cause at the place
+abbrev pub step : Bool → Cause → ℕ → Result ⊤ Refusal
+step this cause place = cond this (Err (refused_at cause place)) (Ok tt)
+
+-- .. unless it is refused already
+abbrev pub unless : Result Sizes Refusal → Bool → Cause → ℕ → Result Sizes Refusal
+unless (Err r) this cause place = Err r
+unless (Ok d) this cause place = cond this (Err (refused_at cause place)) (Ok d)
 
 -- the steps of an admission in their order
-abbrev pub steps : Checked → List (Bool × ℕ × ℕ) → Checked
+abbrev pub steps : Result Sizes Refusal → List (Bool × Cause × ℕ) → Result Sizes Refusal
 steps found [] = found
-steps found ((this, number, place) ∷ more) = steps (unless found this number place) more
+steps found ((this, cause, place) ∷ more) = steps (unless found this cause place) more
 
 -- 'Order: book from the front ..; then ..': the check of the book, then the steps for its sizes
-abbrev pub admits : Checked → (Sizes → List (Bool × ℕ × ℕ)) → Checked
-admits (Checked.Refused r) after = Checked.Refused r
-admits (Checked.Valid d) after = steps (Checked.Valid d) (after d)
+abbrev pub admits : Result Sizes Refusal → (Sizes → List (Bool × Cause × ℕ)) → Result Sizes Refusal
+admits (Err r) after = Err r
+admits (Ok d) after = steps (Ok d) (after d)
 
 -- what is told is something right
 pub record Tells {Thing Told : Type 0} (Right : Thing → Type 0) (tell : Thing → Told) (told : Told) : Type 0 where
@@ -26,7 +31,7 @@ pub record Tells {Thing Told : Type 0} (Right : Thing → Type 0) (tell : Thing 
 
 -- what a call answers, and what lent memory holds after it: the refusal, which 'leaves all lent memory as it found it'; or, where it is
 -- admitted, something right, told in both
-abbrev pub Concludes : {Answer Lent Thing : Type 0} → Checked → (Refusal → Answer) → Lent → (Sizes → Thing → Type 0)
+abbrev pub Concludes : {Answer Lent Thing : Type 0} → Result Sizes Refusal → (Refusal → Answer) → Lent → (Sizes → Thing → Type 0)
     → (Sizes → Thing → Answer × Lent) → Answer × Lent → Type 0
-Concludes (Checked.Refused r) refusal lent Right tell end = end ≡ (refusal r, lent)
-Concludes (Checked.Valid d) refusal lent Right tell end = Tells (Right d) (tell d) end
+Concludes (Err r) refusal lent Right tell end = end ≡ (refusal r, lent)
+Concludes (Ok d) refusal lent Right tell end = Tells (Right d) (tell d) end

@@ -1,5 +1,7 @@
 -- Laws of cells as a source: what is read out of them is a segment of them, and that their numbers fit decides it. Assumes nothing.
-use Rattle.std.specs.Prelude.{true, ◌≡◌, length}
+use Rattle.number.specs.Number.{Number}
+use Rattle.number.specs.declared.cause.Cause.{Cause}
+use Rattle.std.specs.Prelude.{Option, None, Ok, true, ◌≡◌, length}
 use mathlib.Core.List.{List, [], ◌∷◌, ◌++◌, append_assoc, append-nil}
 use Rattle.std.proofs.Common.{sym, ◌∙◌, add_assoc, length-append, length-drop, get_or-append-add, drop-cons, get_or-drop, get_or-take, take-take, length-take-le}
 use Prim.Native.Nat.{ℕ, zero, suc, ◌+◌, ◌≤◌, ◌<◌}
@@ -14,8 +16,6 @@ use Rattle.std.proofs.Math.Seq.{drop-append_seam, drop-drop, take-add}
 use Rattle.number.specs.TestLaws.{tests}
 use Rattle.number.specs.NumberLaws.{value-is, refused-not-value}
 use Rattle.number.specs.declared.Cursor.{Cursor}
-use Rattle.number.specs.declared.Number.{Number}
-use Rattle.number.specs.declared.Number.TheVariants.{Value}
 use Rattle.book.specs.Book.{cell_at, read, row, part_in, parts_in}
 use Rattle.book.specs.PartsLaws.{total, part_length_lem, part-clean, parts-empty, parts-front}
 use Rattle.book.specs.Range.{fits, among, fault, part_length}
@@ -30,7 +30,7 @@ pub record Segment (cells : List ℕ) (k at : ℕ) (vs : List ℕ) (next : ℕ) 
   pub after : next ≡ at + k
   pub within : at + k ≤ length cells
 
-cell-found : (cells : List ℕ) (i v : ℕ) (next : Cursor) → cell_at cells i ≡ Value v next → (i < length cells) × (v ≡ get_or cells i 0) × (next.at ≡ i + 1)
+cell-found : (cells : List ℕ) (i v : ℕ) (next : Cursor) → cell_at cells i ≡ Ok (v, next) → (i < length cells) × (v ≡ get_or cells i 0) × (next.at ≡ i + 1)
 unfolding cell_at
 cell-found cells i v next e = go (dec_lt i (length cells))
   where
@@ -39,8 +39,8 @@ cell-found cells i v next e = go (dec_lt i (length cells))
     go (no h) = absurd (refused-not-value _ v next.at (rw (le-ltb i (length cells) (omega arith)) at e))
 
 -- a row out of a source each of whose numbers is one element of a list is a segment of it
-module _ (source : ℕ → Number) (fault : List ℕ → ℕ → ℕ) (list : List ℕ)
-    (one : (seen : List ℕ) (at v : ℕ) (next : Cursor) → source at ≡ Value v next → fault seen v ≡ 0 → (at < length list) × (v ≡ get_or list at 0) × (next.at ≡ at + 1)) where
+module _ (source : ℕ → Number) (fault : List ℕ → ℕ → Option Cause) (list : List ℕ)
+    (one : (seen : List ℕ) (at v : ℕ) (next : Cursor) → source at ≡ Ok (v, next) → fault seen v ≡ None → (at < length list) × (v ≡ get_or list at 0) × (next.at ≡ at + 1)) where
   pub row-segment : (k : ℕ) (seen : List ℕ) (at : ℕ) (vs : List ℕ) (next : ℕ) → row source fault k seen at ≡ read vs next → at ≤ length list
       → Segment list k at vs next
   row-segment zero seen at vs next e h =
@@ -103,22 +103,22 @@ module _ (cells : List ℕ) (d : Sizes) where
       (part-fits part at f.front f.mid f.first h, rw p.after at (parts-fit more f.mid f.back next f.second (omega (arith, p.after, p.within))))
 
   -- cells that fit are read
-  fit_row : (fault : List ℕ → ℕ → ℕ) (k : ℕ) (seen : List ℕ) (at : ℕ) → at + k ≤ length cells
-      → ((j : ℕ) → j < k → fault (seen ++ take j (drop at cells)) (get_or cells (at + j) 0) ≡ 0)
+  fit_row : (fault : List ℕ → ℕ → Option Cause) (k : ℕ) (seen : List ℕ) (at : ℕ) → at + k ≤ length cells
+      → ((j : ℕ) → j < k → fault (seen ++ take j (drop at cells)) (get_or cells (at + j) 0) ≡ None)
       → row (cell_at cells) fault k seen at ≡ read (take k (drop at cells)) (at + k)
   unfolding row cell_at
   fit_row fault zero seen at h clean = rw add-zero
   fit_row fault (suc k) seen at h clean =
       let v = get_or cells at 0 in
       let front : drop at cells ≡ v ∷ drop (at + 1) cells = rw add-one (drop-cons cells at 0 (omega arith)) in
-      let first : fault seen v ≡ 0 = rw (append-nil, add-zero at) at (clean 0 (omega arith)) in
-      let later : (j : ℕ) → j < k → fault ((seen ++ (v ∷ [])) ++ take j (drop (at + 1) cells)) (get_or cells (at + 1 + j) 0) ≡ 0 = λ j l.
+      let first : fault seen v ≡ None = rw (append-nil, add-zero at) at (clean 0 (omega arith)) in
+      let later : (j : ℕ) → j < k → fault ((seen ++ (v ∷ [])) ++ take j (drop (at + 1) cells)) (get_or cells (at + 1 + j) 0) ≡ None = λ j l.
       (let p : (seen ++ (v ∷ [])) ++ take j (drop (at + 1) cells) ≡ seen ++ take (suc j) (drop at cells) = rw (front, append_assoc) in
       let q : at + 1 + j ≡ at + suc j = omega arith in
       rw (p, q) (clean (suc j) (omega arith))) in
       let next : at + 1 + k ≡ at + suc k = omega arith in
       let onward = rw next at (fit_row fault k (seen ++ (v ∷ [])) (at + 1) (omega arith) later) in
-      rw (lt-ltb at (length cells) (omega arith), eq-eqb (fault seen v) 0 first, onward, front)
+      rw (lt-ltb at (length cells) (omega arith), first, onward, front)
 
   pub fit-part : (part : Part) (at : ℕ) → at + part_length d part ≤ length cells
       → ((i : ℕ) → i < part_length d part → FitsAt d part cells at i)

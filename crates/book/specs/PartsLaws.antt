@@ -1,26 +1,25 @@
 -- Laws of parts one after the other. Assumes nothing.
-use Rattle.std.specs.Prelude.{◌≡◌, Bool, true, false, ℕ, ◌+◌, ◌<◌, length, get_or, take}
+use Rattle.std.specs.Prelude.{Result, Ok, Err, ◌≡◌, Bool, true, false, ℕ, ◌+◌, ◌<◌, length, get_or, take}
 use Rattle.std.proofs.Math.Path.{refl, sym}
 use Rattle.std.proofs.Common.{◌∙◌, ap, zero-add, add_assoc, arith, ne_eqb, length-append, length-take-le}
 use mathlib.Core.List.{List, [], ◌∷◌, ◌++◌, append_assoc}
-use Rattle.number.specs.Number.{number_at, refusal}
+use Rattle.number.specs.Number.{Number, number_at, refusal}
 use Rattle.number.specs.declared.Cursor.{Cursor}
-use Rattle.number.specs.declared.Number.{Number}
-use Rattle.number.specs.declared.Number.TheVariants.{Value, Refused}
+use Rattle.number.specs.declared.cause.Refusal.{Refusal}
 use Rattle.book.specs.Book.{cell_at, Row, read, refused, before, admitted, part_in, parts_in, joined, body}
-use Rattle.book.specs.Range.{part_length, fits, fault_unless, fault_number, among, fault}
+use Rattle.book.specs.Range.{part_length, fits, fault_unless, fault_cause, among, fault}
 use Rattle.book.specs.RowLaws.{ends, after, ends-joined, refused-not-read, row-length, row-clean, values, values-row}
-use Rattle.book.specs.RangeLaws.{fault-fits, some_number}
+use Rattle.book.specs.RangeLaws.{fault-fits}
 use Rattle.book.specs.declared.Part.{Part}
 use Rattle.book.specs.declared.Part.TheVariants.{Productions, Ranks, Actions, Gotos}
 use Rattle.book.specs.declared.Sizes.{Sizes}
 use Rattle.book.specs.declared.Source.{Source}
 use Rattle.book.specs.declared.Source.TheVariants.{Bytes, Cells}
 
--- the numbers of one of two slices
-abbrev pub numbers : Source → List ℕ → List ℕ → ℕ → Number
-numbers Bytes bytes cells = number_at bytes
-numbers Cells bytes cells = cell_at cells
+-- the numbers of a source
+abbrev pub numbers : Source → ℕ → Number
+numbers (Bytes bytes) = number_at bytes.now
+numbers (Cells cells) = cell_at cells.now
 
 -- how many numbers parts have
 abbrev pub total : Sizes → List Part → ℕ
@@ -86,22 +85,22 @@ module _ (source : ℕ → Number) (d : Sizes) where
       ∙ ap (λ (l : List ℕ). f.front ++ l) (values-parts more m f.mid f.back next f.second))
 
   -- ---- where parts end, as a function that goes on part by part knows it
-  after-part : (last next : Number) (part : Part) (more : List Part) → next ≡ after last (λ at. ends (part_in source d part at))
+  after-part : (last next : Result ℕ Refusal) (part : Part) (more : List Part) → next ≡ after last (λ at. ends (part_in source d part at))
       → after next (λ at. ends (parts_in source d more at)) ≡ after last (λ at. ends (parts_in source d (part ∷ more) at))
-  after-part (Refused r) next part more e = rw e
-  after-part (Value v at) next part more e = rw e (sym (ends-parts part more at.at))
+  after-part (Err r) next part more e = rw e
+  after-part (Ok at) next part more e = rw e (sym (ends-parts part more at))
 
-  after_last : (last next : Number) (part : Part) → next ≡ after last (λ at. ends (part_in source d part at))
+  after_last : (last next : Result ℕ Refusal) (part : Part) → next ≡ after last (λ at. ends (part_in source d part at))
       → next ≡ after last (λ at. ends (parts_in source d (part ∷ []) at))
   unfolding parts_in
-  after_last (Refused r) next part e = e
-  after_last (Value v at) next part e = e ∙ by_row (part_in source d part at.at) ∙ sym (ends-parts part [] at.at)
+  after_last (Err r) next part e = e
+  after_last (Ok at) next part e = e ∙ by_row (part_in source d part at) ∙ sym (ends-parts part [] at)
     where
       by_row : (w : Row) → ends w ≡ after (ends w) (λ mid. ends (read [] mid))
       by_row (read vs end) = refl
       by_row (refused r) = refl
 
-  pub after-body : (head : Number) {productions ranks actions gotos : Number} → productions ≡ after head (λ at. ends (part_in source d Productions at))
+  pub after-body : (head : Result ℕ Refusal) {productions ranks actions gotos : Result ℕ Refusal} → productions ≡ after head (λ at. ends (part_in source d Productions at))
       → ranks ≡ after productions (λ at. ends (part_in source d Ranks at)) → actions ≡ after ranks (λ at. ends (part_in source d Actions at)) → gotos ≡ after actions (λ at. ends (part_in source d Gotos at))
       → gotos ≡ after head (λ at. ends (parts_in source d body at))
   after-body head {productions} {ranks} {actions} {gotos} p r a g =
@@ -110,5 +109,5 @@ module _ (source : ℕ → Number) (d : Sizes) where
 
 -- ---- a number of a part that does not fit
 pub admitted-faulty : (part : Part) (i v at : ℕ) (next : Cursor) (fits : ℕ → Bool) → fits v ≡ false
-    → admitted (λ v. fault_unless (fits v) (fault_number part i)) at (Value v next) ≡ refusal (fault_number part i) at
-admitted-faulty part i v at next fits e = rw (e, ne_eqb (fault_number part i) 0 (some_number part i))
+    → admitted (λ v. fault_unless (fits v) (fault_cause part i)) at (Ok (v, next)) ≡ refusal (fault_cause part i) at
+admitted-faulty part i v at next fits e = rw e

@@ -1,12 +1,13 @@
 -- Which numbers are in range where in a book. Assumes nothing.
-use Rattle.std.specs.Prelude.{Bool, true, false, cond, not, ◌&&◌, ◌||◌, List, [], ◌∷◌, length, get_or, ℕ, ◌*◌, ◌%◌, ltb, leb, eqb}
+use Rattle.std.specs.Prelude.{Option, Some, None, Bool, true, false, cond, not, ◌&&◌, ◌||◌, List, [], ◌∷◌, length, get_or, ℕ, ◌*◌, ◌%◌, ltb, leb, eqb}
+use Rattle.number.specs.declared.cause.Cause.{Cause}
 use Rattle.book.specs.Action.{action_of}
 use Rattle.book.specs.declared.{Action.Action, Part.Part, Sizes.Sizes}
 
--- the number of a refusal where a test fails, 0 where it holds
-abbrev pub fault_unless : Bool → ℕ → ℕ
-fault_unless true number = 0
-fault_unless false number = number
+-- the cause of a refusal where a test fails, none where it holds
+abbrev pub fault_unless : Bool → Cause → Option Cause
+fault_unless true cause = None
+fault_unless false cause = Some cause
 
 -- 'T terminals, 1 to 32; N nonterminals, 0 to 32; S states, 1 to 128; P productions, 0 to 128' after the form, by request 2 1 or 2
 abbrev pub head_lowest : List ℕ
@@ -40,21 +41,21 @@ fits d Part.Ranks i there v = ltb v d.t && not there
 fits d Part.Actions i there v = allowed d (i % d.t) (action_of v)
 fits d Part.Gotos i there v = leb v d.s
 
--- the number that refuses it otherwise: by request 2 'Number 3 now means a form that is neither'; '4 T, N, S or P outside its range'; by request 1
+-- what refuses it otherwise: by request 2 'Number 3 now means a form that is neither'; '4 T, N, S or P outside its range'; by request 1
 -- 'From now on 5 means a left side or length only', '14 for an action, 15 for a goto, each where 5 stood': 14 for 'a shift under terminal 0, or accept
 -- under another terminal' too; by request 2 '16, a rank that is T or more or already used, in reading order'
-unfoldable pub fault_number : Part → ℕ → ℕ
-fault_number Part.Head i = cond (eqb i 0) 3 4
-fault_number Part.Productions i = 5
-fault_number Part.Ranks i = 16
-fault_number Part.Actions i = 14
-fault_number Part.Gotos i = 15
+unfoldable pub fault_cause : Part → ℕ → Cause
+fault_cause Part.Head i = cond (eqb i 0) Cause.Form Cause.Count
+fault_cause Part.Productions i = Cause.Production
+fault_cause Part.Ranks i = Cause.Rank
+fault_cause Part.Actions i = Cause.Action
+fault_cause Part.Gotos i = Cause.Goto
 
 -- whether a number is among others
 abbrev pub among : ℕ → List ℕ → Bool
 among v [] = false
 among v (w ∷ ws) = eqb v w || among v ws
 
--- the refusal of v after the numbers of its part already seen, 0 for none
-unfoldable pub fault : Sizes → Part → List ℕ → ℕ → ℕ
-fault d part seen v = fault_unless (fits d part (length seen) (among v seen) v) (fault_number part (length seen))
+-- why v is refused after the numbers of its part already seen, if it is
+unfoldable pub fault : Sizes → Part → List ℕ → ℕ → Option Cause
+fault d part seen v = fault_unless (fits d part (length seen) (among v seen) v) (fault_cause part (length seen))

@@ -1,11 +1,12 @@
 -- Laws of the ranges. Assumes nothing.
-use Rattle.std.specs.Prelude.{Bool, true, false, List, ◌≡◌, refl, ℕ, zero, suc, ◌+◌, ◌*◌, ◌≤◌, ◌<◌, length, get_or}
+use Rattle.std.specs.Prelude.{Option, None, Bool, true, false, List, ◌≡◌, refl, ℕ, zero, suc, ◌+◌, ◌*◌, ◌≤◌, ◌<◌, length, get_or}
 use Rattle.std.proofs.lemmas.Bool.{false≢true, lt-leb}
 use Rattle.std.proofs.Common.{mul-zero, arith, le-leb}
 use Rattle.std.proofs.Math.Decide.{dec_le, ℕ_discrete}
+use Rattle.number.specs.declared.cause.Cause.{Cause}
 use Rattle.number.specs.TestLaws.{tests}
 use Rattle.book.specs.IndexLaws.{mul_small}
-use Rattle.book.specs.Range.{head_lowest, head_highest, part_length, fault_unless, fault_number, among, fault, fits}
+use Rattle.book.specs.Range.{head_lowest, head_highest, part_length, fault_unless, fault_cause, among, fault, fits}
 use Rattle.book.specs.declared.Part.{Part}
 use Rattle.book.specs.declared.Part.TheVariants.{Head, Productions, Ranks, Actions, Gotos}
 use Rattle.book.specs.declared.Sizes.{Sizes}
@@ -50,31 +51,19 @@ few-none =
     record { terminals = omega arith; nonterminals = omega arith; states = omega arith; productions = omega arith; actions = omega arith; gotos = omega arith }
 
 -- the refusal of v as number i of its part, where it is known what is there already
-abbrev pub fault_among : Sizes → Part → ℕ → (ℕ → Bool) → ℕ → ℕ
-fault_among d part i there v = fault_unless (fits d part i (there v) v) (fault_number part i)
+abbrev pub fault_among : Sizes → Part → ℕ → (ℕ → Bool) → ℕ → Option Cause
+fault_among d part i there v = fault_unless (fits d part i (there v) v) (fault_cause part i)
 
 -- ---- a number has a fault exactly where it does not fit
-pub some_number : (part : Part) (i : ℕ) → fault_number part i ≡ 0 → ⊥
-unfolding fault_number
-some_number Head i e = go (ℕ_discrete i 0) e
-  where
-    go : Dec (i ≡ 0) → fault_number Head i ≡ 0 → ⊥
-    go (yes h) e = omega (arith, simp tests at e)
-    go (no h) e = omega (arith, simp tests at e)
-some_number Productions i e = omega arith
-some_number Ranks i e = omega arith
-some_number Actions i e = omega arith
-some_number Gotos i e = omega arith
-
-pub fault-fits : (d : Sizes) (part : Part) (seen : List ℕ) (v : ℕ) → fault d part seen v ≡ 0 → fits d part (length seen) (among v seen) v ≡ true
+pub fault-fits : (d : Sizes) (part : Part) (seen : List ℕ) (v : ℕ) → fault d part seen v ≡ None → fits d part (length seen) (among v seen) v ≡ true
 unfolding fault
 fault-fits d part seen v e = go (fits d part (length seen) (among v seen) v) e
   where
-    go : (b : Bool) → fault_unless b (fault_number part (length seen)) ≡ 0 → b ≡ true
+    go : (b : Bool) → fault_unless b (fault_cause part (length seen)) ≡ None → b ≡ true
     go true f = refl
-    go false f = absurd (some_number part (length seen) f)
+    go false f = let z : ◌≡◌ {A = ℕ} 0 1 = cc in absurd (omega arith)
 
-pub fits-fault : (d : Sizes) (part : Part) (seen : List ℕ) (v : ℕ) → fits d part (length seen) (among v seen) v ≡ true → fault d part seen v ≡ 0
+pub fits-fault : (d : Sizes) (part : Part) (seen : List ℕ) (v : ℕ) → fits d part (length seen) (among v seen) v ≡ true → fault d part seen v ≡ None
 unfolding fault
 fits-fault d part seen v e = rw e
 

@@ -1,15 +1,14 @@
 -- Reading and writing a book undo each other, and what is written are bytes. Assumes nothing.
-use Rattle.std.specs.Prelude.{◌≡◌, refl, ℕ, zero, suc, ◌+◌, ◌/◌, ◌%◌, ◌≤◌, ◌<◌, length, get_or, drop}
+use Rattle.std.specs.Prelude.{Option, Ok, ◌≡◌, refl, ℕ, zero, suc, ◌+◌, ◌/◌, ◌%◌, ◌≤◌, ◌<◌, length, get_or, drop}
 use Rattle.std.proofs.Common.{sym, ◌∙◌, add_assoc, add-zero, zero-add, add-one, arith, lt-ltb, le-ltb, eq-eqb, length-append, drop_of_length-le, drop-cons, drop-drop, get_or-drop}
 use mathlib.Core.List.{List, [], ◌∷◌, ◌++◌, append_assoc, append-nil, nil≢cons}
 use Rattle.std.proofs.Math.Decide.{dec_lt}
 use Rattle.std.proofs.Math.Seq.{drop-append_seam}
-use Rattle.number.specs.Number.{number_at, groups, written, first, value}
+use Rattle.number.specs.Number.{Number, number_at, groups, written, first, value}
 use Rattle.number.specs.NumberLaws.{Bytes, first-written, first-stands}
 use Rattle.number.specs.TestLaws.{tests}
+use Rattle.number.specs.declared.cause.Cause.{Cause}
 use Rattle.number.specs.declared.Cursor.{Cursor}
-use Rattle.number.specs.declared.Number.{Number}
-use Rattle.number.specs.declared.Number.TheVariants.{Value}
 use Rattle.book.specs.Book.{cell_at, read, row, parts_in, body, book_in, of_bytes, of_cells, bytes_of}
 use Rattle.book.specs.BookLaws.{book-whole}
 use Rattle.book.specs.PartsLaws.{parts-empty, parts-front}
@@ -27,17 +26,17 @@ Cells s = (i : ℕ) → get_or s i 0 < 65536
 -- the numbers that a source has from a place up to another
 data Reads (source : ℕ → Number) : ℕ → List ℕ → ℕ → Type 0 where
   none : {at : ℕ} → Reads source at [] at
-  more : {at v next : ℕ} {vs : List ℕ} (cursor : Cursor) → source at ≡ Value v cursor → Reads source cursor.at vs next → Reads source at (v ∷ vs) next
+  more : {at v next : ℕ} {vs : List ℕ} (cursor : Cursor) → source at ≡ Ok (v, cursor) → Reads source cursor.at vs next → Reads source at (v ∷ vs) next
 
 -- ---- a row that one source has, any other that has its numbers has too
-row_reads : (source : ℕ → Number) (fault : List ℕ → ℕ → ℕ) (k : ℕ) (seen : List ℕ) (at : ℕ) (vs : List ℕ) (next : ℕ) → row source fault k seen at ≡ read vs next
+row_reads : (source : ℕ → Number) (fault : List ℕ → ℕ → Option Cause) (k : ℕ) (seen : List ℕ) (at : ℕ) (vs : List ℕ) (next : ℕ) → row source fault k seen at ≡ read vs next
     → Reads source at vs next
 row_reads source fault zero seen at vs next e = let (p, q) = row-empty source fault seen at vs next e in rw (← p, ← q) none
 row_reads source fault (suc k) seen at vs next e =
     let f = row-front source fault k seen at vs next e in
     rw f.split (more f.cursor f.found (row_reads source fault k (seen ++ (f.v ∷ [])) f.cursor.at f.rest next f.onward))
 
-reads-row : {other : ℕ → Number} {at' next' : ℕ} {vs : List ℕ} (source : ℕ → Number) (fault : List ℕ → ℕ → ℕ) (k : ℕ) (seen : List ℕ) (at next : ℕ)
+reads-row : {other : ℕ → Number} {at' next' : ℕ} {vs : List ℕ} (source : ℕ → Number) (fault : List ℕ → ℕ → Option Cause) (k : ℕ) (seen : List ℕ) (at next : ℕ)
     → row source fault k seen at ≡ read vs next → Reads other at' vs next' → row other fault k seen at' ≡ read vs next'
 unfolding row
 reads-row source fault zero seen at next e none = refl
@@ -48,7 +47,7 @@ reads-row source fault (suc k) seen at next e (more {v} {vs} c f r) =
     let h : g.v ≡ v = cc (sym g.split) in
     let j : g.rest ≡ vs = cc (sym g.split) in
     let onward = reads-row source fault k (seen ++ (v ∷ [])) g.cursor.at next (rw (h, j) at g.onward) r in
-    rw (f, eq-eqb (fault seen v) 0 (rw h at g.clean), onward)
+    rw (f, (rw h at g.clean), onward)
 
 -- some of the numbers, and then the others
 reads-split : {source : ℕ → Number} {at next : ℕ} (a b : List ℕ) → Reads source at (a ++ b) next
@@ -113,7 +112,7 @@ cells-reads cells at (v ∷ vs) e h =
     let i : get_or cells at 0 ≡ v = cc in
     let j : drop (at + 1) cells ≡ vs = rw add-one (cc) in
     let p : at + suc (length vs) ≡ at + 1 + length vs = omega arith in
-    let found : cell_at cells at ≡ Value v (record { at = at + 1 }) = rw (lt-ltb at (length cells) l, i) in
+    let found : cell_at cells at ≡ Ok (v, (record { at = at + 1 })) = rw (lt-ltb at (length cells) l, i) in
     rw p (more (record { at = at + 1 }) found (cells-reads cells (at + 1) vs j (omega arith)))
 
 -- what lies after some bytes

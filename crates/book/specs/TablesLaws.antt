@@ -1,15 +1,14 @@
 -- Definitions for the laws of the tables: what holds of every valid list of cells, and of the tables that it holds. Assumes nothing.
-use Rattle.std.specs.Prelude.{List, ◌≡◌, ℕ, suc, ◌+◌, ◌*◌, ◌≤◌, ◌<◌, length}
+use Rattle.std.specs.Prelude.{Ok, List, ◌≡◌, ℕ, suc, ◌+◌, ◌*◌, ◌≤◌, ◌<◌, length}
 use Rattle.book.specs.Book.{read, of_cells, checked}
 use Rattle.book.specs.RangeLaws.{Small, body_length}
 use Rattle.book.specs.Tables.{Tables, sizes_of}
 use Rattle.book.specs.declared.Action.TheVariants.{Shift, Reduce}
-use Rattle.book.specs.declared.Checked.TheVariants.{Valid}
 use Rattle.book.specs.declared.Sizes.{Sizes}
 
 -- `check` finds the cells valid, of the sizes d
 abbrev pub Accepted : Sizes → List ℕ → Type 0
-Accepted d cells = checked (of_cells cells) ≡ Valid d
+Accepted d cells = checked (of_cells cells) ≡ Ok d
 
 -- they hold a book
 pub record IsBook (d : Sizes) (cells : List ℕ) : Type 0 where

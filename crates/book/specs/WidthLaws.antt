@@ -1,12 +1,12 @@
 -- Laws of how large the numbers of a book are: what is in its field's range is below 16,384, and so takes at most two bytes and fits in a cell.
 -- Assumes nothing.
+use Rattle.number.specs.Number.{Number}
 use Rattle.std.specs.Prelude.{Bool, true, false, List, [], ◌∷◌, ◌≡◌, refl, ℕ, zero, suc, ◌+◌, ◌%◌, ◌≤◌, ◌<◌, length, get_or}
 use Rattle.std.proofs.lemmas.Bool.{false≢true}
 use Rattle.std.proofs.Math.Decide.{dec_lt, ℕ_discrete}
 use Rattle.std.proofs.Common.{arith, le-ltb, ltb-true, leb-true}
 use Rattle.std.proofs.Math.ListN.{get_or-eq_default}
 use Rattle.number.specs.TestLaws.{tests}
-use Rattle.number.specs.declared.Number.{Number}
 use Rattle.book.specs.Action.{action_of}
 use Rattle.book.specs.ActionLaws.{code-action, code_of}
 use Rattle.book.specs.Book.{body}

@@ -1,21 +1,26 @@
 // The admission of a call, step by step.
-ghost use Rattle.std.specs.Prelude.{◌≡◌};
-ghost use Rattle.book.specs.Call.{unless};
+ghost use Rattle.std.specs.Prelude.{Ok, ◌≡◌};
+ghost use Rattle.book.specs.Call.{step, steps};
 
-use crate::Checked;
-use number::Refusal;
+use crate::Sizes;
+use number::{Cause, Refusal};
 
-impl Checked {
-    // Refused by the number at the place where this holds, unless refused already.
-    pub fn unless(self, this: bool, number: u8, place: usize) -> Checked
-        ensures { result ≡ unless self this number place }
-    {
-        let Checked::Valid(_) = self else {
-            return self;
-        };
-        if this {
-            return Checked::Refused(Refusal { number, place });
-        }
-        self
+// Refused at the place where this holds.
+pub fn refuse_if(this: bool, cause: Cause, place: usize) -> Result<(), Refusal>
+    ensures { result ≡ step this cause place }
+{
+    if this {
+        return Err(Refusal::at(cause, place));
     }
+    Ok(())
+}
+
+// The sizes of a book that was checked, or the first refusal of the steps.
+pub fn admit(d: Sizes, refusals: &[(bool, Cause, usize)]) -> Result<Sizes, Refusal>
+    ensures { result ≡ steps (Ok d) refusals.now }
+{
+    for (this, cause, place) in refusals {
+        refuse_if(*this, *cause, *place)?;
+    }
+    Ok(d)
 }

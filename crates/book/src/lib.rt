@@ -11,13 +11,13 @@ mod tables;
 
 pub use actions::decode;
 pub use bytes::read;
+pub use call::{admit, refuse_if};
 pub use cells::{check, write};
-use number::Refusal;
 pub use range::rank_count;
 pub use tables::{action_at, goto_at, left_side, production_length};
 
 // The kinds of action that a cell holds, a shift with its state and a reduction with its production.
-#[derive(Clone, Copy)]
+#[derive(Clone, Copy, Debug, PartialEq, Eq)]
 pub enum Action {
     Error,
     Accept,
@@ -26,7 +26,7 @@ pub enum Action {
 }
 
 // A book's form, and how many terminals, nonterminals, states and productions it has.
-#[derive(Clone, Copy)]
+#[derive(Clone, Copy, Debug, PartialEq, Eq)]
 pub struct Sizes {
     pub form: usize,
     pub t: usize,
@@ -36,7 +36,7 @@ pub struct Sizes {
 }
 
 // The parts of a book in their order, each a row of numbers.
-#[derive(Clone, Copy)]
+#[derive(Clone, Copy, Debug, PartialEq, Eq)]
 pub enum Part {
     Head,
     Productions,
@@ -45,22 +45,9 @@ pub enum Part {
     Gotos,
 }
 
-// Which of two slices holds the numbers of a book.
+// What the numbers of a book are read from.
 #[derive(Clone, Copy)]
-pub enum Source {
-    Bytes,
-    Cells,
-}
-
-#[derive(Clone, Copy)]
-pub enum Checked {
-    Valid(Sizes),
-    Refused(Refusal),
-}
-
-// How many cells or bytes were written.
-#[derive(Clone, Copy)]
-pub enum Written {
-    Count(usize),
-    Refused(Refusal),
+pub enum Source<'a> {
+    Bytes(&'a [u8]),
+    Cells(&'a [u16]),
 }

@@ -1,35 +1,32 @@
-// The parts of a book, number by number. Of the two slices that are handed in the source says which is read; the other is not looked at.
+// The parts of a book, number by number, from either source.
 ghost use Rattle.std.specs.Prelude.{◌≡◌};
 ghost use Rattle.book.specs.Book.{cell_at, part_in, parts_in, body};
 ghost use Rattle.book.specs.BookLaws.{head_in};
 ghost use Rattle.book.specs.PartsLaws.{numbers};
 ghost use Rattle.book.specs.RangeLaws.{Few};
 ghost use Rattle.book.specs.SeenLaws.{marked};
-ghost use Rattle.book.specs.RowLaws.{after, ends};
+ghost use Rattle.book.specs.RowLaws.{ends};
 
 use crate::range::{admit, part_length};
 use crate::{Part, Sizes, Source};
-use number::{Cursor, Number, Refusal};
+use number::{Cause, Cursor, Refusal};
 use sets::insert;
 
-fn cell_at(cells: &[u16], i: usize) -> Number
+fn cell_at(cells: &[u16], i: usize) -> Result<(u32, Cursor), Refusal>
     ensures { result ≡ cell_at cells.now i }
 {
     if i < cells.len() {
-        return Number::Value(cells[i] as u32, Cursor { at: i + 1 });
+        return Ok((cells[i] as u32, Cursor { at: i + 1 }));
     }
-    Number::Refused(Refusal {
-        number: 1,
-        place: i,
-    })
+    Err(Refusal::at(Cause::Incomplete, i))
 }
 
-fn number_at(source: Source, bytes: &[u8], cells: &[u16], at: usize) -> Number
-    ensures { result ≡ numbers source bytes.now cells.now at }
+fn number_at(source: Source<'_>, at: usize) -> Result<(u32, Cursor), Refusal>
+    ensures { result ≡ numbers source.entry at }
 {
     match source {
-        Source::Bytes => Cursor { at }.read(bytes),
-        Source::Cells => cell_at(cells, at),
+        Source::Bytes(bytes) => Cursor { at }.read(bytes),
+        Source::Cells(cells) => cell_at(cells, at),
     }
 }
 
@@ -38,53 +35,34 @@ fn mark(part: Part, ranks: u32, v: u32) -> u32
     ensures { result ≡ marked part ranks v }
 {
     match part {
-        Part::Head => ranks,
-        Part::Productions => ranks,
         Part::Ranks => {
             if v < 32 {
                 return insert(ranks, v as usize);
             }
             ranks
         }
-        Part::Actions => ranks,
-        Part::Gotos => ranks,
+        Part::Head | Part::Productions | Part::Actions | Part::Gotos => ranks,
     }
 }
 
-// The numbers of a part from where the one before it ended; answers where they end, or the first refusal.
-fn part_row(
-    source: Source,
-    bytes: &[u8],
-    cells: &[u16],
-    d: Sizes,
-    part: Part,
-    last: Number,
-) -> Number
+// The numbers of a part from a place on; answers where they end, or the first refusal.
+fn part_row(source: Source<'_>, d: Sizes, part: Part, start: usize) -> Result<usize, Refusal>
     requires { Few d }
-    ensures { result ≡ after last (λ at. ends (part_in (numbers source bytes.now cells.now) d part at)) }
+    ensures { result ≡ ends (part_in (numbers source.entry) d part start) }
 {
-    let Number::Value(_, start) = last else {
-        return last;
-    };
-    let n = part_length(d, part);
-    let mut at = start.at;
+    let mut at = start;
     let mut ranks: u32 = 0;
-    let mut i: usize = 0;
-    while i < n {
-        let found = admit(number_at(source, bytes, cells, at), d, part, i, at, ranks);
-        let Number::Value(v, next) = found else {
-            return found;
-        };
+    for i in 0..part_length(d, part) {
+        let (v, next) = admit(number_at(source, at), d, part, i, at, ranks)?;
         at = next.at;
         ranks = mark(part, ranks, v);
-        i += 1;
     }
-    Number::Value(0, Cursor { at })
+    Ok(at)
 }
 
 // The head, which depends on no sizes.
-pub fn head_row(source: Source, bytes: &[u8], cells: &[u16]) -> Number
-    ensures { result ≡ ends (head_in (numbers source bytes.now cells.now)) }
+pub fn head_row(source: Source<'_>) -> Result<usize, Refusal>
+    ensures { result ≡ ends (head_in (numbers source.entry)) }
 {
     let none = Sizes {
         form: 0,
@@ -93,17 +71,16 @@ pub fn head_row(source: Source, bytes: &[u8], cells: &[u16]) -> Number
         s: 0,
         p: 0,
     };
-    let start = Number::Value(0, Cursor { at: 0 });
-    part_row(source, bytes, cells, none, Part::Head, start)
+    part_row(source, none, Part::Head, 0)
 }
 
 // The parts after the head.
-pub fn body_rows(source: Source, bytes: &[u8], cells: &[u16], d: Sizes, head: Number) -> Number
+pub fn body_rows(source: Source<'_>, d: Sizes, head: usize) -> Result<usize, Refusal>
     requires { Few d }
-    ensures { result ≡ after head (λ at. ends (parts_in (numbers source bytes.now cells.now) d body at)) }
+    ensures { result ≡ ends (parts_in (numbers source.entry) d body head) }
 {
-    let productions = part_row(source, bytes, cells, d, Part::Productions, head);
-    let ranks = part_row(source, bytes, cells, d, Part::Ranks, productions);
-    let actions = part_row(source, bytes, cells, d, Part::Actions, ranks);
-    part_row(source, bytes, cells, d, Part::Gotos, actions)
+    let productions = part_row(source, d, Part::Productions, head)?;
+    let ranks = part_row(source, d, Part::Ranks, productions)?;
+    let actions = part_row(source, d, Part::Actions, ranks)?;
+    part_row(source, d, Part::Gotos, actions)
 }

@@ -5,13 +5,14 @@ ghost use Rattle.book.specs.Book.{admitted};
 ghost use Rattle.book.specs.BookLaws.{closing};
 ghost use Rattle.book.specs.Tables.{sizes_of};
 ghost use Rattle.book.specs.declared.Part.TheVariants.{Ranks};
-ghost use Rattle.book.specs.Range.{part_length, allowed, fits, fault_number};
+ghost use Rattle.book.specs.Range.{part_length, allowed, fits, fault_cause};
 ghost use Rattle.book.specs.RangeLaws.{Few, body_length, fault_among};
 ghost use Rattle.sets.specs.Bits.{member};
 
 use crate::actions::decode;
-use crate::{Action, Checked, Part, Sizes};
-use number::{Number, Refusal};
+use crate::call::refuse_if;
+use crate::{Action, Part, Sizes};
+use number::{Cause, Cursor, Refusal};
 use sets::contains;
 
 const LOWEST: [u32; 5] = [1, 1, 0, 1, 0];
@@ -92,39 +93,41 @@ fn in_range(d: Sizes, part: Part, i: usize, v: u32, ranks: u32) -> bool
     }
 }
 
-// The number that refuses number i of a part.
-fn fault_number(part: Part, i: usize) -> u8
-    ensures { result ≡ fault_number part i }
+// Why number i of a part is refused.
+fn fault_cause(part: Part, i: usize) -> Cause
+    ensures { result ≡ fault_cause part i }
 {
     match part {
         Part::Head => {
             if i == 0 {
-                return 3;
+                return Cause::Form;
             }
-            4
+            Cause::Count
         }
-        Part::Productions => 5,
-        Part::Ranks => 16,
-        Part::Actions => 14,
-        Part::Gotos => 15,
+        Part::Productions => Cause::Production,
+        Part::Ranks => Cause::Rank,
+        Part::Actions => Cause::Action,
+        Part::Gotos => Cause::Goto,
     }
 }
 
 // Number i of a part, as it was found at a place, or its refusal.
-pub fn admit(found: Number, d: Sizes, part: Part, i: usize, at: usize, ranks: u32) -> Number
+pub fn admit(
+    found: Result<(u32, Cursor), Refusal>,
+    d: Sizes,
+    part: Part,
+    i: usize,
+    at: usize,
+    ranks: u32,
+) -> Result<(u32, Cursor), Refusal>
     requires { (i < part_length d part) × Few d }
     ensures { result ≡ admitted (fault_among d part i (member ranks)) at found }
 {
-    let Number::Value(v, _) = found else {
-        return found;
-    };
+    let (v, next) = found?;
     if in_range(d, part, i, v, ranks) {
-        return found;
+        return Ok((v, next));
     }
-    Number::Refused(Refusal {
-        number: fault_number(part, i),
-        place: at,
-    })
+    Err(Refusal::at(fault_cause(part, i), at))
 }
 
 // The sizes that the head says.
@@ -141,21 +144,10 @@ pub fn sizes(head: &[u16]) -> Sizes
     }
 }
 
-// The verdict on a book whose last row ended so: nothing may follow.
-pub fn close(last: Number, d: Sizes, end: usize) -> Checked
-    ensures { result ≡ closing d end last }
+// The verdict on a book whose last row ended at a place: nothing may follow.
+pub fn close(at: usize, d: Sizes, end: usize) -> Result<Sizes, Refusal>
+    ensures { result ≡ closing d end at }
 {
-    match last {
-        Number::Refused(r) => Checked::Refused(r),
-        Number::Value(_, next) => {
-            let at = next.at;
-            if at < end {
-                return Checked::Refused(Refusal {
-                    number: 6,
-                    place: at,
-                });
-            }
-            Checked::Valid(d)
-        }
-    }
+    refuse_if(at < end, Cause::Surplus, at)?;
+    Ok(d)
 }

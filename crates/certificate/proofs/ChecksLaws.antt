@@ -1,7 +1,8 @@
 -- Laws of the call that checks a certificate: at most one answer is right, and the two theorems for it. Assumes nothing.
-use Rattle.std.specs.Prelude.{List, ◌≡◌, ℕ, ◌+◌, ◌*◌, ◌/◌, ◌%◌, ◌≤◌, ◌<◌, length, get_or}
+use Rattle.number.specs.declared.cause.Refusal.{Refusal}
+use Rattle.std.specs.Prelude.{Result, Ok, Err, List, ◌≡◌, ℕ, ◌+◌, ◌*◌, ◌/◌, ◌%◌, ◌≤◌, ◌<◌, length, get_or}
 use Rattle.std.proofs.Math.Path.{refl}
-use Rattle.std.proofs.Common.{sym, ◌∙◌, arith, ext_get_or}
+use Rattle.std.proofs.Common.{sym, ◌∙◌, ap, arith, ext_get_or}
 use borrow.Author.Tests.{le-ltb, ltb-false}
 use Rattle.book.specs.Book.{of_cells, checked}
 use Rattle.book.specs.Call.{admits}
@@ -10,8 +11,6 @@ use Rattle.book.specs.IndexLaws.{index-split}
 use Rattle.book.specs.Tables.{tables_of}
 use Rattle.book.specs.TablesLaws.{Accepted, IsBook, InRange}
 use Rattle.book.proofs.TablesLaws.{accepted-book, in-range}
-use Rattle.book.specs.declared.Checked.{Checked}
-use Rattle.book.specs.declared.Checked.TheVariants.{Valid, Refused as CheckedRefused}
 use Rattle.book.specs.declared.Sizes.{Sizes}
 use Rattle.forms.proofs.FormsLaws.{plain-holds, plain-tables}
 use Rattle.machine.specs.Machine.{Reaches}
@@ -43,10 +42,10 @@ module _ (cells crossings pairs bytes : List ℕ) where
   unfolding sentences_of certificate_refusals
   spelled-admitted ws end e = go (admits (checked (of_cells cells)) (λ d. certificate_refusals (tables_of cells) (length crossings) (length pairs))) refl e
     where
-      go : (x : Checked) → admits (checked (of_cells cells)) (λ d. certificate_refusals (tables_of cells) (length crossings) (length pairs)) ≡ x
+      go : (x : Result Sizes Refusal) → admits (checked (of_cells cells)) (λ d. certificate_refusals (tables_of cells) (length crossings) (length pairs)) ≡ x
           → spelled_in x pairs bytes ≡ spelled ws end → Admission cells crossings pairs bytes ws end
-      go (CheckedRefused r) i f = absurd (refused-not-spelled r ws end f)
-      go (Valid d) i f =
+      go (Err r) i f = absurd (refused-not-spelled r ws end f)
+      go (Ok d) i f =
           let (book, (a, (b, (c, (g, u))))) = call-admitted (checked (of_cells cells)) (λ d. certificate_refusals (tables_of cells) (length crossings) (length pairs)) d i in
           record {
             d = d;
@@ -63,11 +62,11 @@ accepted-range d cells e = rw (plain-tables d cells e) at (in-range (plain-holds
 -- ---- the answer
 module _ {cells crossings pairs bytes : List ℕ} where
   -- at most one answer is right
-  pub checks-one : {v v' : Verdict} → Checks cells crossings pairs bytes v → Checks cells crossings pairs bytes v' → v ≡ v'
+  pub checks-one : {v v' : Result Verdict Refusal} → Checks cells crossings pairs bytes v → Checks cells crossings pairs bytes v' → v ≡ v'
   checks-one (refuses r e) (refuses r' e') = cc
   checks-one (refuses r e) (judges ws end v e' j) = absurd (refused-not-spelled r ws end (sym e ∙ e'))
   checks-one (judges ws end v e j) (refuses r e') = absurd (refused-not-spelled r ws end (sym e' ∙ e))
-  checks-one (judges ws end v e j) (judges ws' end' v' e' j') = let i : ws ≡ ws' = cc in judged-one j (rw (← i) at j')
+  checks-one (judges ws end v e j) (judges ws' end' v' e' j') = let i : ws ≡ ws' = cc in ap Ok (judged-one j (rw (← i) at j'))
 
 -- an accepted judgement shows that no condition fails
 accepted-none : {fails : Condition → ℕ → Type 0} → Judged fails IsAccepted → (k : Condition) (i : ℕ) → ¬ fails k i
@@ -85,7 +84,7 @@ unfolding tables_of
 pair-cells-of h = rw h.sizes
 
 -- *sound*: what is accepted is the true map, whoever made the certificate
-pub accepted-mapped : {cells crossings pairs bytes : List ℕ} → Checks cells crossings pairs bytes IsAccepted → Mapped cells pairs
+pub accepted-mapped : {cells crossings pairs bytes : List ℕ} → Checks cells crossings pairs bytes (Ok IsAccepted) → Mapped cells pairs
 accepted-mapped {cells} {crossings} {pairs} {bytes} (judges ws end v e j) =
     let a = spelled-admitted cells crossings pairs bytes ws end e in
     let h = accepted-book cells a.d a.book in
@@ -96,14 +95,14 @@ accepted-mapped {cells} {crossings} {pairs} {bytes} (judges ws end v e j) =
     }
 
 -- *complete*: a true certificate without long pairs, whose sentences reach within the limits, is accepted ..
-pub certified-accepted : {cells crossings pairs bytes : List ℕ} → Certified cells crossings pairs bytes → Checks cells crossings pairs bytes IsAccepted
+pub certified-accepted : {cells crossings pairs bytes : List ℕ} → Certified cells crossings pairs bytes → Checks cells crossings pairs bytes (Ok IsAccepted)
 certified-accepted {cells} {crossings} {pairs} {bytes} t =
     judges t.sentences t.end IsAccepted
     (rows-admitted cells crossings pairs bytes t.d t.book t.crossing-cells t.pair-cells ∙ t.written)
     (complete (accepted-range t.d cells t.book) t.claims)
 
 -- .. which is every accepted one that claims no crossing too low ..
-pub accepted-certified : {cells crossings pairs bytes : List ℕ} → Checks cells crossings pairs bytes IsAccepted
+pub accepted-certified : {cells crossings pairs bytes : List ℕ} → Checks cells crossings pairs bytes (Ok IsAccepted)
     → ((q X a z : ℕ) → q < (tables_of cells).states → X < (tables_of cells).nonterminals → a < (tables_of cells).terminals → z < (tables_of cells).terminals
     → Exact plain (Crosses (tables_of cells) q X a z) (get_or crossings (crossing_at (tables_of cells) q X a z) 0)) → Certified cells crossings pairs bytes
 unfolding certificate_in
@@ -121,7 +120,7 @@ accepted-certified {cells} {crossings} {pairs} {bytes} (judges ws end v e j) f =
     }
 
 -- .. and nothing else is answered for it
-pub certified-only : {cells crossings pairs bytes : List ℕ} {v : Verdict} → Certified cells crossings pairs bytes → Checks cells crossings pairs bytes v → v ≡ IsAccepted
+pub certified-only : {cells crossings pairs bytes : List ℕ} {v : Result Verdict Refusal} → Certified cells crossings pairs bytes → Checks cells crossings pairs bytes v → v ≡ Ok IsAccepted
 certified-only t c = checks-one c (certified-accepted t)
 
 -- ---- there is one true map of a book: what two accepted certificates claim of the pairs is the same, cell by cell, and so is the finder's map

@@ -1,10 +1,11 @@
 -- The table of small certificates, proved by computation; and what an acceptance that was computed says of the machine. Assumes nothing.
-use Rattle.std.specs.Prelude.{List, [], ◌∷◌, ◌≡◌, refl}
+use Rattle.std.specs.Prelude.{Result, Ok, List, [], ◌∷◌, ◌≡◌, refl}
 use Rattle.std.proofs.Common.{not-suc-le-zero}
 use Rattle.number.specs.Number.{number_at, first, second, third}
+use Rattle.number.specs.declared.cause.Refusal.{Refusal}
 use Rattle.book.specs.Action.{action_of}
 use Rattle.book.specs.Book.{book_in, cell_at, row, parts_in, of_cells}
-use Rattle.book.specs.Range.{allowed, fits, fault, fault_number}
+use Rattle.book.specs.Range.{allowed, fits, fault, fault_cause}
 use Rattle.book.specs.Tables.{sizes_of, tables_of}
 use Rattle.machine.specs.Machine.{next}
 use Rattle.machine.specs.Run.{reducing}
@@ -23,25 +24,25 @@ use Rattle.certificate.specs.declared.Verdict.{Verdict}
 use Rattle.certificate.specs.declared.Verdict.TheVariants.{Accepted}
 
 -- what the definition gives, and what is expected
-abbrev given : List Case → List Verdict
+abbrev given : List Case → List (Result Verdict Refusal)
 given [] = []
 given (c ∷ cs) = checking c.cells c.crossings c.pairs c.bytes ∷ given cs
 
-abbrev expected : List Case → List Verdict
+abbrev expected : List Case → List (Result Verdict Refusal)
 expected [] = []
 expected (c ∷ cs) = c.answer ∷ expected cs
 
 pub examples : given cases ≡ expected cases
-unfolding cases spinning deep apart single number_at first second third action_of book_in cell_at row parts_in of_cells allowed fits fault fault_number sizes_of tables_of next reducing outside plus comes brings certificate_in certificate_refusals sentences_of told sentence_at sentences_at sentences_in lengthened layered road_cost lowest_crossing lowest_pair verdict checking
+unfolding cases spinning deep apart single number_at first second third action_of book_in cell_at row parts_in of_cells allowed fits fault fault_cause sizes_of tables_of next reducing outside plus comes brings certificate_in certificate_refusals sentences_of told sentence_at sentences_at sentences_in lengthened layered road_cost lowest_crossing lowest_pair verdict checking
 examples = refl
 
 -- an acceptance that was computed is a theorem about the machine, without limits
-single-accepted : Accepted ≡ checking single [] (0 ∷ 0 ∷ 1 ∷ 1 ∷ []) (0 ∷ 0 ∷ 1 ∷ 1 ∷ 1 ∷ 1 ∷ [])
-unfolding cases spinning deep apart single number_at first second third action_of book_in cell_at row parts_in of_cells allowed fits fault fault_number sizes_of tables_of next reducing outside plus comes brings certificate_in certificate_refusals sentences_of told sentence_at sentences_at sentences_in lengthened layered road_cost lowest_crossing lowest_pair verdict checking
+single-accepted : Ok Accepted ≡ checking single [] (0 ∷ 0 ∷ 1 ∷ 1 ∷ []) (0 ∷ 0 ∷ 1 ∷ 1 ∷ 1 ∷ 1 ∷ [])
+unfolding cases spinning deep apart single number_at first second third action_of book_in cell_at row parts_in of_cells allowed fits fault fault_cause sizes_of tables_of next reducing outside plus comes brings certificate_in certificate_refusals sentences_of told sentence_at sentences_at sentences_in lengthened layered road_cost lowest_crossing lowest_pair verdict checking
 single-accepted = refl
 
-single-checks : Checks single [] (0 ∷ 0 ∷ 1 ∷ 1 ∷ []) (0 ∷ 0 ∷ 1 ∷ 1 ∷ 1 ∷ 1 ∷ []) Accepted
-single-checks = (checks-iff single [] (0 ∷ 0 ∷ 1 ∷ 1 ∷ []) (0 ∷ 0 ∷ 1 ∷ 1 ∷ 1 ∷ 1 ∷ []) Accepted).1 single-accepted
+single-checks : Checks single [] (0 ∷ 0 ∷ 1 ∷ 1 ∷ []) (0 ∷ 0 ∷ 1 ∷ 1 ∷ 1 ∷ 1 ∷ []) (Ok Accepted)
+single-checks = (checks-iff single [] (0 ∷ 0 ∷ 1 ∷ 1 ∷ []) (0 ∷ 0 ∷ 1 ∷ 1 ∷ 1 ∷ 1 ∷ []) (Ok Accepted)).1 single-accepted
 
 pub single-mapped : Mapped single (0 ∷ 0 ∷ 1 ∷ 1 ∷ [])
 single-mapped = accepted-mapped single-checks

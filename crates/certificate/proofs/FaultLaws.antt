@@ -12,7 +12,7 @@ use Rattle.book.specs.IndexLaws.{row_below, index-first, index-split, index-digi
 use Rattle.book.specs.Tables.{tables_of}
 use Rattle.book.proofs.TablesLaws.{in-range}
 use Rattle.book.specs.declared.Sizes.{Sizes}
-use Rattle.walk.specs.Scale.{plain, long, unreached}
+use Rattle.walk.specs.Scale.{plain, unreached}
 use Rattle.walk.proofs.ClaimsLaws.{claimed-next}
 use Rattle.layers.specs.Crossing.{crossing_row, claim_in}
 use Rattle.layers.specs.CrossingLaws.{terminals-are, states-are}
@@ -26,7 +26,7 @@ use Rattle.certificate.specs.SearchLaws.{judged-fault, before-next}
 use Rattle.certificate.specs.IndexLaws.{at-crossing-below, pair-below, pair-at, crossing-at}
 use Rattle.certificate.specs.Sentences.{sentences_in}
 use Rattle.certificate.specs.Wrong.{WrongSentence, LowestWrong}
-use Rattle.certificate.specs.Faults.{fails_alone, InRow, InRows, words_of, lent_in, Lent, Searched}
+use Rattle.certificate.specs.Faults.{fails_alone, InRow, InRows, words_of, lent_in, Lent, HoldTo, Searched}
 use Rattle.certificate.specs.declared.Condition.{Condition}
 use Rattle.certificate.specs.declared.Condition.TheVariants.{Range, Roads, Start, Transitions, Short, Sentences}
 use Rattle.certificate.specs.declared.Verdict.TheVariants.{Fault}
@@ -271,6 +271,22 @@ module _ {d : Sizes} {cells crossings pairs bytes : List ℕ} (l : Lent d cells 
     where
       digits : (s z : ℕ) → z < (tables_of cells).terminals → (pair_at (tables_of cells) s z / d.t ≡ s) × (pair_at (tables_of cells) s z % d.t ≡ z)
       digits s z lz = rw (← terminals-are l.holds) (index-digits (tables_of cells).terminals s z lz)
+
+  -- ---- what holds after the searches, one by one
+  pub after-range : {i : ℕ} → Lowest (InRows Range crossings pairs) (length crossings + length pairs) i → length crossings + length pairs ≤ i
+      → HoldTo d cells crossings pairs bytes 1
+  after-range x h = searched-none Range (λ k j l y. omega arith) (range-searched x) h
+
+  module _ (f : HoldTo d cells crossings pairs bytes 2) {i : ℕ} (x : Lowest (InRow Start pairs) (length pairs) i) (h : d.t ≤ i) where
+    pub after-start : HoldTo d cells crossings pairs bytes 3
+    after-start = searched-none Start f (start-searched x) h
+
+    module _ {j : ℕ} (y : Lowest (PairExceeds d (tables_of cells) (claim_in d crossings) pairs) (length pairs) j) (g : length pairs ≤ j) where
+      pub after-transitions : HoldTo d cells crossings pairs bytes 4
+      after-transitions = searched-none Transitions after-start (transitions-searched y) g
+
+      pub after-short : {k : ℕ} → Lowest (InRow Short pairs) (length pairs) k → length pairs ≤ k → HoldTo d cells crossings pairs bytes 5
+      after-short z e = searched-none Short after-transitions (short-searched z) e
 
   -- ---- where no claim is over 1,002
   module _ (f : Before (Fails (tables_of cells) (lent_in d cells crossings pairs bytes)) 1) where

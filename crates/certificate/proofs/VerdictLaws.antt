@@ -1,5 +1,5 @@
 -- Laws of the verdict as a function: it is the one right verdict. Assumes nothing.
-use Rattle.std.specs.Prelude.{Bool, true, false, cond, not, ◌&&◌, List, ◌⊎◌, ◌↔◌, ◌≡◌, refl, ltb, leb}
+use Rattle.std.specs.Prelude.{Result, Bool, true, false, cond, not, ◌&&◌, List, ◌⊎◌, ◌↔◌, ◌≡◌, refl, ltb, leb}
 use Rattle.std.proofs.lemmas.Bool.{false≢true}
 use Rattle.std.proofs.Math.Logic.{inl, inr, ⊎_elim}
 use Rattle.std.proofs.Common.{sym, arith}
@@ -7,6 +7,7 @@ use Prim.Native.Nat.{ℕ, zero, suc, ◌+◌, ◌≤◌, ◌<◌}
 use Rattle.std.proofs.Math.Decide.{ℕ_discrete}
 use borrow.Author.Tests.{lt-ltb, le-leb, eq-eqb, ne_eqb, ltb-true, leb-true, eqb-true}
 use Rattle.std.proofs.Math.Dec.{eqb}
+use Rattle.number.specs.declared.cause.Refusal.{Refusal}
 use Rattle.book.specs.Tables.{Tables, tables_of}
 use Rattle.book.specs.TablesLaws.{InRange}
 use Rattle.book.specs.declared.Action.{Action}
@@ -232,7 +233,7 @@ checking-checks cells crossings pairs bytes = go (sentences_of cells crossings p
         let a = spelled-admitted cells crossings pairs bytes ws end i in
         judges ws end _ i (verdict-judged (accepted-range a.d cells a.book) (certificate_in (tables_of cells) crossings pairs ws))
 
-pub checks-iff : (cells crossings pairs bytes : List ℕ) (v : Verdict) → Checks cells crossings pairs bytes v ↔ (v ≡ checking cells crossings pairs bytes)
+pub checks-iff : (cells crossings pairs bytes : List ℕ) (v : Result Verdict Refusal) → Checks cells crossings pairs bytes v ↔ (v ≡ checking cells crossings pairs bytes)
 checks-iff cells crossings pairs bytes v = (
   λ x. checks-one x (checking-checks cells crossings pairs bytes),
   λ e. rw e (checking-checks cells crossings pairs bytes),

@@ -1,13 +1,12 @@
 -- Laws of a loop over the pairs that looks for the first wrong sentence. Assumes nothing.
-use Rattle.std.specs.Prelude.{true, false, List, [], ◌⊎◌, ◌≡◌, ℕ, suc, ◌+◌, ◌/◌, ◌%◌, ◌≤◌, ◌<◌, length, get_or, drop}
+use Rattle.std.specs.Prelude.{Ok, Err, true, false, List, [], ◌⊎◌, ◌≡◌, ℕ, suc, ◌+◌, ◌/◌, ◌%◌, ◌≤◌, ◌<◌, length, get_or, drop}
 use Rattle.std.proofs.lemmas.Bool.{false≢true}
 use Rattle.std.proofs.Common.{inl, inr, sym, ◌∙◌, add-one, arith}
 use Rattle.std.proofs.Math.Decide.{ℕ_discrete, dec_lt}
 use Rattle.number.specs.Number.{number_at}
 use Rattle.number.specs.NumberLaws.{value-is, refused-not-value}
 use Rattle.number.specs.declared.Cursor.{Cursor}
-use Rattle.number.specs.declared.Number.TheVariants.{Value, Refused}
-use Rattle.number.specs.declared.Refusal.{Refusal}
+use Rattle.number.specs.declared.cause.Refusal.{Refusal}
 use Rattle.book.specs.Book.{read}
 use Rattle.book.specs.Tables.{Tables}
 use Rattle.machine.specs.AdmissionLaws.{sound-all}
@@ -23,10 +22,10 @@ use Rattle.certificate.specs.SentencesLaws.{Sentence, Turn, turn_at, turn-senten
 use Rattle.certificate.specs.Wrong.{Admitted, WrongSentence, LowestWrong}
 
 -- sentences with an end are admitted
-pub ended-admitted : {v : ℕ} {next : Cursor} (t : ℕ) (bytes pairs : List ℕ) → spelled_end (sentences_in t bytes pairs) ≡ Value v next → Admitted t bytes pairs
-ended-admitted {v} {next} t bytes pairs e =
-    let (ws, f) = spelled-ends (sentences_in t bytes pairs) v next e in
-    record { ws = ws; end = next.at; whole = f }
+pub ended-admitted : {next : ℕ} (t : ℕ) (bytes pairs : List ℕ) → spelled_end (sentences_in t bytes pairs) ≡ Ok next → Admitted t bytes pairs
+ended-admitted {next} t bytes pairs e =
+    let (ws, f) = spelled-ends (sentences_in t bytes pairs) next e in
+    record { ws = ws; end = next; whole = f }
 
 -- symbols that were read are terminals
 pub symbols-sound : {t : ℕ} {bytes : List ℕ} {start len : ℕ} → Symbols t bytes start len → sound_prefix t (part bytes start len) ≡ length (part bytes start len)
@@ -102,16 +101,16 @@ module _ {B : Tables} {t : ℕ} {bytes pairs : List ℕ} where
       sentence : Sentence t bytes at (get_or s.ws k []) turn.next
       sentence = turn-sentence t bytes (omega arith) l turn
 
-      pub standing-refused : (r : Refusal) → ¬ (number_at bytes at ≡ Refused r)
+      pub standing-refused : (r : Refusal) → ¬ (number_at bytes at ≡ Err r)
       standing-refused r e = let q = sentence in refused-not-value r (length (get_or s.ws k [])) q.start (sym e ∙ q.begins)
 
-      pub stood : {len : ℕ} {c : Cursor} → number_at bytes at ≡ Value len c → Stood t bytes pairs k c.at len s.ws s.end
+      pub stood : {len : ℕ} {c : Cursor} → number_at bytes at ≡ Ok (len, c) → Stood t bytes pairs k c.at len s.ws s.end
       stood {len} {c} e =
           let q = sentence in
           let (i, j) = value-is (length (get_or s.ws k [])) q.start len c.at (sym q.begins ∙ e) in
           record { spelt = rw (i, j) at q.spelt; symbols = rw (i, j) at q.symbols; onward = rw (q.after, i, j) at turn.onward }
 
-      module _ {len : ℕ} {c : Cursor} (e : number_at bytes at ≡ Value len c) where
+      module _ {len : ℕ} {c : Cursor} (e : number_at bytes at ≡ Ok (len, c)) where
         pub standing-right : is_right B (part bytes c.at len) (k % t) (k / t) (get_or pairs k 0) ≡ true → Standing B t bytes pairs (k + 1) (c.at + len)
         standing-right f = let q = stood e in more q.onward (λ w. false≢true (sym w.wrong ∙ rw q.spelt f))
 

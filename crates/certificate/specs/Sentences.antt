@@ -1,14 +1,16 @@
 -- The sentences of a certificate: which there are, and what reading them gives. Assumes nothing.
-use Rattle.std.specs.Prelude.{cond, List, [], ◌∷◌, length, ℕ, ltb, leb}
-use Rattle.number.specs.{Number.number_at, declared.Number.Number, declared.Refusal.Refusal}
+use Rattle.number.specs.declared.cause.Cause.{Cause}
+use Rattle.number.specs.Number.{refused_at, Number}
+use Rattle.std.specs.Prelude.{Ok, Err, cond, List, [], ◌∷◌, length, ℕ, ltb, leb}
+use Rattle.number.specs.{Number.number_at, declared.cause.Refusal.Refusal}
 use Rattle.book.specs.Book.{Row, admitted}
 use Rattle.lists.specs.Entry.{length_fault, symbol_row}
 use Rattle.walk.specs.Scale.{plain}
 
 -- the length was read
 abbrev pub after_length : ℕ → List ℕ → Number → Row
-after_length t bytes (Number.Refused r) = Row.refused r
-after_length t bytes (Number.Value len next) = symbol_row t bytes next.at len
+after_length t bytes (Err r) = Row.refused r
+after_length t bytes (Ok (len, next)) = symbol_row t bytes next.at len
 
 -- 'a length and symbols', 'Sentences are written and refused as in a list': an entry without its lookahead, each number by 1, 2, its range, and
 -- so '8 before 7'. The symbols of the sentence at an offset of the bytes, with the offset after it; or the refusal
@@ -41,7 +43,7 @@ sentences_at t bytes (claim ∷ claims) at = followed (claimed_at t bytes claim 
 -- 'nothing after': '6 something follows the last number'
 abbrev pub closed : ℕ → Spelled → Spelled
 closed end (refused r) = refused r
-closed end (spelled ws at) = cond (ltb at end) (refused (record { number = 6; place = at })) (spelled ws at)
+closed end (spelled ws at) = cond (ltb at end) (refused (refused_at Cause.Surplus at)) (spelled ws at)
 
 -- 'It also has, in the map's order, a length and symbols for each pair claimed at 1,000 or less'
 unfoldable pub sentences_in : ℕ → List ℕ → List ℕ → Spelled

@@ -1,5 +1,6 @@
 -- Laws of the sentences of a certificate: how they are read one by one, and what holds of those that were read. Assumes nothing.
-use Rattle.std.specs.Prelude.{cond, ◌≡◌, ℕ, suc, ◌+◌, ◌≤◌, ◌<◌, ltb, get_or, drop}
+use Rattle.number.specs.declared.cause.Cause.{Cause}
+use Rattle.std.specs.Prelude.{⊤, Result, Ok, Err, cond, ◌≡◌, ℕ, suc, ◌+◌, ◌≤◌, ◌<◌, ltb, get_or, drop}
 use mathlib.Core.List.{List, [], ◌∷◌}
 use Rattle.std.proofs.Math.Path.{refl, sym}
 use Rattle.std.proofs.Common.{◌∙◌, ap, add-one, arith, le-leb, drop_of_length-le}
@@ -8,14 +9,12 @@ use Rattle.std.proofs.lemmas.Bool.{lt-leb}
 use Rattle.std.proofs.Math.ListN.{length}
 use Rattle.std.proofs.Math.Seq.{drop-cons}
 use Rattle.number.specs.TestLaws.{tests}
-use Rattle.number.specs.Number.{number_at, value, refusal}
-use Rattle.number.specs.NumberLaws.{value-is, refused-not-value}
-use Rattle.number.specs.declared.Cursor.{Cursor}
-use Rattle.number.specs.declared.Number.{Number}
-use Rattle.number.specs.declared.Number.TheVariants.{Value, Refused}
-use Rattle.number.specs.declared.Refusal.{Refusal}
+use Rattle.number.specs.Number.{Number, number_at, value, refused_at}
+use Rattle.number.specs.declared.cause.Refusal.{Refusal}
 use Rattle.book.specs.Book.{Row, read, refused as unread, admitted}
 use Rattle.book.specs.BookLaws.{ends_read, ends-refused}
+use Rattle.book.specs.Call.{step}
+use Rattle.book.specs.CallLaws.{step-refuses, step-passes}
 use Rattle.book.specs.RowLaws.{ends, refused-not-read, row-length}
 use Rattle.lists.specs.Entry.{length_fault, symbol_fault, part}
 use Rattle.lists.specs.EntryLaws.{Symbols}
@@ -40,11 +39,11 @@ unfolding sentence_at
 sentence-read t bytes at w next few e = go (admitted length_fault at (number_at bytes at)) refl e
   where
     go : (n : Number) → admitted length_fault at (number_at bytes at) ≡ n → after_length t bytes n ≡ read w next → Sentence t bytes at w next
-    go (Refused r) g f = absurd (refused-not-read r w next f)
-    go (Value len c) g f =
+    go (Err r) g f = absurd (refused-not-read r w next f)
+    go (Ok (len, c)) g f =
         let count : length w ≡ len = row-length (number_at bytes) (symbol_fault t) len [] c.at w next f in
         let (m, o) = admitted-found length_fault at (number_at bytes at) len c g in
-        let short = inside 0 1001 7 len o in
+        let short = inside 0 1001 Cause.Length len o in
         let s = symbols-spelled t bytes c.at len w next few f (number-within bytes at len c.at m) in
         let same : read w next ≡ read (part bytes c.at len) (c.at + len) = sym f ∙ s.row in
         record { start = c.at; begins = rw count m; short = omega arith; spelt = rw count (cc); after = rw count (cc); symbols = rw count s }
@@ -132,34 +131,44 @@ module _ (t : ℕ) (bytes : List ℕ) where
       go (spelled us at) i f = by_end us at i f (dec_lt at (length bytes))
 
 -- ---- where they end, or their refusal: what a loop that keeps no sentence knows of them
-abbrev pub spelled_end : Spelled → Number
-spelled_end (spelled ws at) = value 0 at
-spelled_end (refused r) = Refused r
+abbrev pub spelled_end : Spelled → Result ℕ Refusal
+spelled_end (spelled ws at) = Ok at
+spelled_end (refused r) = Err r
 
-pub spelled-ends : (x : Spelled) (v : ℕ) (next : Cursor) → spelled_end x ≡ Value v next → (ws : List (List ℕ)) × (x ≡ spelled ws next.at)
-spelled-ends (spelled ws at) v next e = (ws, ap (spelled ws) (value-is 0 at v next.at e).1)
-spelled-ends (refused r) v next e = absurd (refused-not-value r v next.at e)
+refused-not-end : (r : Refusal) (next : ℕ) → ◌≡◌ {A = Result ℕ Refusal} (Err r) (Ok next) → ⊥
+refused-not-end r next e = let z : ◌≡◌ {A = ℕ} 0 1 = cc in omega arith
 
-pub spelled-refused : (x : Spelled) (r : Refusal) → spelled_end x ≡ Refused r → x ≡ refused r
-spelled-refused (spelled ws at) r e = absurd (refused-not-value r 0 at (sym e))
+pub spelled-ends : (x : Spelled) (next : ℕ) → spelled_end x ≡ Ok next → (ws : List (List ℕ)) × (x ≡ spelled ws next)
+spelled-ends (spelled ws at) next e = let f : at ≡ next = cc in (ws, ap (spelled ws) f)
+spelled-ends (refused r) next e = absurd (refused-not-end r next e)
+
+pub spelled-refused : (x : Spelled) (r : Refusal) → spelled_end x ≡ Err r → x ≡ refused r
+spelled-refused (spelled ws at) r e = absurd (refused-not-end r at (sym e))
 spelled-refused (refused q) r e = cc
 
 -- the verdict on sentences that ended so
-abbrev pub spelled_closing : ℕ → Number → Number
-spelled_closing end (Refused r) = Refused r
-spelled_closing end (Value v next) = cond (ltb next.at end) (refusal 6 next.at) (Value v next)
+abbrev pub spelled_closing : ℕ → Result ℕ Refusal → Result ℕ Refusal
+spelled_closing end (Err r) = Err r
+spelled_closing end (Ok at) = cond (ltb at end) (Err (refused_at Cause.Surplus at)) (Ok at)
 
 pub sentences-closing : (t : ℕ) (bytes claims : List ℕ) → spelled_end (sentences_in t bytes claims) ≡ spelled_closing (length bytes) (spelled_end (sentences_at t bytes claims 0))
 unfolding sentences_in
 sentences-closing t bytes claims = go (sentences_at t bytes claims 0)
   where
-    by_end : (ws : List (List ℕ)) (at : ℕ) → Dec (at < length bytes) → spelled_end (closed (length bytes) (spelled ws at)) ≡ spelled_closing (length bytes) (value 0 at)
+    by_end : (ws : List (List ℕ)) (at : ℕ) → Dec (at < length bytes) → spelled_end (closed (length bytes) (spelled ws at)) ≡ spelled_closing (length bytes) (Ok at)
     by_end ws at (yes h) = simp tests
     by_end ws at (no h) = simp tests
 
     go : (x : Spelled) → spelled_end (closed (length bytes) x) ≡ spelled_closing (length bytes) (spelled_end x)
     go (refused r) = refl
     go (spelled ws at) = by_end ws at (dec_lt at (length bytes))
+
+-- what follows the last sentence is refused
+pub closing-stops : (end at : ℕ) {r : Refusal} → Err r ≡ step (ltb at end) Cause.Surplus at → Err r ≡ spelled_closing end (Ok at)
+closing-stops end at e = let (after, same) = step-refuses (ltb at end) Cause.Surplus at e in rw (after, same)
+
+pub closing-passes : (end at : ℕ) {u : ⊤} → Ok u ≡ step (ltb at end) Cause.Surplus at → Ok at ≡ spelled_closing end (Ok at)
+closing-passes end at e = rw (step-passes (ltb at end) Cause.Surplus at e)
 
 -- a loop over the pairs: k are passed, and the next sentence stands at an offset
 pub record SentencesPassed (t : ℕ) (bytes claims : List ℕ) (k at : ℕ) : Type 0 where
@@ -179,21 +188,21 @@ module _ {t : ℕ} {bytes claims : List ℕ} where
   passed-more {k} {at} w next p h e = record { left = p.left ∙ rw (add-one, drop-cons claims k 0 h, e) (end_before w (sentences_at t bytes (drop (suc k) claims) next)) }
 
   -- a pair with a sentence, which was read
-  pub passed-some : {k at v : ℕ} {next : Cursor} → SentencesPassed t bytes claims k at → k < length claims → get_or claims k 0 ≤ plain.limit
-      → ends (sentence_at t bytes at) ≡ Value v next → SentencesPassed t bytes claims (k + 1) next.at
-  passed-some {k} {at} {v} {next} p h l e =
-      let (w, f) = ends_read (sentence_at t bytes at) v next e in
-      passed-more w next.at p h (claimed-some t bytes (get_or claims k 0) at l ∙ f)
+  pub passed-some : {k at next : ℕ} → SentencesPassed t bytes claims k at → k < length claims → get_or claims k 0 ≤ plain.limit
+      → ends (sentence_at t bytes at) ≡ Ok next → SentencesPassed t bytes claims (k + 1) next
+  passed-some {k} {at} {next} p h l e =
+      let (w, f) = ends_read (sentence_at t bytes at) next e in
+      passed-more w next p h (claimed-some t bytes (get_or claims k 0) at l ∙ f)
 
   -- a pair without one
   pub passed-long : {k at : ℕ} → SentencesPassed t bytes claims k at → k < length claims → plain.limit < get_or claims k 0 → SentencesPassed t bytes claims (k + 1) at
   passed-long {k} {at} p h l = passed-more [] at p h (claimed-none t bytes (get_or claims k 0) at l)
 
   pub passed-stop : {k at : ℕ} {r : Refusal} → SentencesPassed t bytes claims k at → k < length claims → get_or claims k 0 ≤ plain.limit
-      → ends (sentence_at t bytes at) ≡ Refused r → Refused r ≡ spelled_end (sentences_at t bytes claims 0)
+      → ends (sentence_at t bytes at) ≡ Err r → Err r ≡ spelled_end (sentences_at t bytes claims 0)
   unfolding sentences_at
   passed-stop {k} {at} {r} p h l e = sym (p.left ∙ rw (drop-cons claims k 0 h, claimed-some t bytes (get_or claims k 0) at l, ends-refused (sentence_at t bytes at) r e))
 
-  pub passed-done : {k at : ℕ} → SentencesPassed t bytes claims k at → length claims ≤ k → value 0 at ≡ spelled_end (sentences_at t bytes claims 0)
+  pub passed-done : {k at : ℕ} → SentencesPassed t bytes claims k at → length claims ≤ k → Ok at ≡ spelled_end (sentences_at t bytes claims 0)
   unfolding sentences_at
   passed-done {k} p h = sym (p.left ∙ rw (drop_of_length-le claims h))

@@ -1,5 +1,6 @@
 -- The verdict as a function: each condition is searched for its lowest fault. `VerdictLaws` says that it is the one right verdict. Assumes nothing.
-use Rattle.std.specs.Prelude.{Bool, cond, not, ◌&&◌, List, ℕ, zero, suc, ◌+◌, min, ltb, leb, eqb}
+use Rattle.std.specs.Prelude.{Result, Ok, Err, Bool, cond, not, ◌&&◌, List, ℕ, zero, suc, ◌+◌, min, ltb, leb, eqb}
+use Rattle.number.specs.declared.cause.Refusal.{Refusal}
 use Rattle.book.specs.{Tables.Tables, Tables.tables_of, declared.Action.Action}
 use Rattle.walk.specs.{Scale.plain, Scale.long, Scale.unreached, Sum.plus, Claims.Claims}
 use Rattle.certificate.specs.Certificate.{Certificate, crossing_at, crossing_count, pair_at, claim_count, certificate_in, is_right}
@@ -67,9 +68,9 @@ unfoldable pub verdict : Tables → Certificate → Verdict
 verdict B c = told (claim_count B) (lowest_fault B c)
 
 -- what `check_certificate` answers
-abbrev pub answer : Tables → List ℕ → List ℕ → Spelled → Verdict
-answer B crossings pairs (refused r) = Verdict.Refused r
-answer B crossings pairs (spelled sentences end) = verdict B (certificate_in B crossings pairs sentences)
+abbrev pub answer : Tables → List ℕ → List ℕ → Spelled → Result Verdict Refusal
+answer B crossings pairs (refused r) = Err r
+answer B crossings pairs (spelled sentences end) = Ok (verdict B (certificate_in B crossings pairs sentences))
 
-unfoldable pub checking : List ℕ → List ℕ → List ℕ → List ℕ → Verdict
+unfoldable pub checking : List ℕ → List ℕ → List ℕ → List ℕ → Result Verdict Refusal
 checking cells crossings pairs bytes = answer (tables_of cells) crossings pairs (sentences_of cells crossings pairs bytes)

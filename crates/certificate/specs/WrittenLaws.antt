@@ -1,11 +1,12 @@
 -- What is written of a certificate's sentences is read back. Assumes nothing.
-use Rattle.std.specs.Prelude.{List, [], ◌∷◌, ◌++◌, ◌≡◌, ℕ, zero, suc, ◌+◌, ◌≤◌, ◌<◌, get_or}
+use Rattle.std.specs.Prelude.{None, List, [], ◌∷◌, ◌++◌, ◌≡◌, ℕ, zero, suc, ◌+◌, ◌≤◌, ◌<◌, get_or}
 use Rattle.std.proofs.Common.{append_assoc, ◌∙◌, add_assoc, arith}
 use Rattle.std.proofs.Math.Path.{refl}
 use Rattle.std.proofs.Math.Nat.{add-zero, zero-add}
-use borrow.Author.Tests.{le-ltb, le-leb, lt-leb, eq-eqb}
+use borrow.Author.Tests.{le-ltb, le-leb, lt-leb}
 use Rattle.std.proofs.Math.ListN.{length, drop, length-append}
 use Rattle.number.specs.Number.{written}
+use Rattle.number.specs.declared.cause.Cause.{Cause}
 use Rattle.book.specs.Book.{read, bytes_of}
 use Rattle.book.specs.RoundTripLaws.{past, number-written}
 use Rattle.book.specs.Tables.{Tables}
@@ -27,9 +28,9 @@ unfolding sentence_at
 sentence-written {B} {w} bytes at rest few h t e =
     let e' : drop at bytes ≡ written (length w) ++ (bytes_of w ++ rest) = e ∙ append_assoc (written (length w)) (bytes_of w) rest in
     let n = number-written bytes at (length w) (bytes_of w ++ rest) (omega arith) e' in
-    let clean : length_fault (length w) ≡ 0 = outside-none 0 1001 8 (length w) (omega arith) (omega arith) in
+    let clean : length_fault (length w) ≡ None = outside-none 0 1001 Cause.Length (length w) (omega arith) (omega arith) in
     let on = symbols-read B.terminals bytes w [] (at + length (written (length w))) rest few (terminal-at t) (past bytes at (written (length w)) (bytes_of w ++ rest) e') in
-    rw (n, eq-eqb (length_fault (length w)) 0 clean, on, length-append, ← add_assoc)
+    rw (n, clean, on, length-append, ← add_assoc)
 
 module _ {B : Tables} (few : B.terminals ≤ 128) where
   sentences-at : {claims : List ℕ} {ws : List (List ℕ)} (bytes : List ℕ) (at : ℕ) → Writable B claims ws → drop at bytes ≡ written_sentences claims ws

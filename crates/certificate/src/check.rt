@@ -1,5 +1,5 @@
 // The check: the refusals, then the conditions in turn.
-ghost use Rattle.std.specs.Prelude.{◌≡◌, ◌+◌, ◌≤◌, length};
+ghost use Rattle.std.specs.Prelude.{Ok, ◌≡◌, ◌+◌, ◌≤◌, length};
 ghost use Rattle.book.specs.TablesLaws.{Accepted};
 ghost use Rattle.walk.specs.Scale.{plain};
 ghost use Rattle.layers.specs.Crossing.{Usable};
@@ -14,9 +14,9 @@ use crate::admission::admit_rows;
 use crate::claims::first_alone;
 use crate::sentences::{check_sentences, lowest_sentence};
 use crate::{Condition, Verdict};
-use book::{Checked, Sizes};
+use book::Sizes;
 use forms::{PLAIN, plain_cells, plain_sizes};
-use number::Number;
+use number::Refusal;
 use roads::{live_rows, lowest_pair, lowest_road};
 
 // The index of the first claim over 1,002, the pairs counted on after the crossings, or the number of claims.
@@ -101,7 +101,7 @@ fn check_book(
     requires accepted { Accepted d cells.now }
     requires rows_fit { RowsFit d (length crossings.now) (length pairs.now) }
     requires admitted { Admitted d.t sentences.now pairs.now }
-    ensures { result ≡ checking cells.now crossings.now pairs.now sentences.now }
+    ensures { Ok result ≡ checking cells.now crossings.now pairs.now sentences.now }
 {
     let mut plain = [0u16; PLAIN];
     let n = plain_cells(cells, d, &mut plain);
@@ -115,15 +115,13 @@ fn check_rows(
     crossings: &[u16],
     pairs: &[u16],
     sentences: &[u8],
-) -> Verdict
+) -> Result<Verdict, Refusal>
     requires accepted { Accepted d cells.now }
     requires rows_fit { RowsFit d (length crossings.now) (length pairs.now) }
     ensures { result ≡ checking cells.now crossings.now pairs.now sentences.now }
 {
-    match check_sentences(sentences, pairs, d.t) {
-        Number::Refused(r) => Verdict::Refused(r),
-        Number::Value(_, _) => check_book(cells, d, crossings, pairs, sentences),
-    }
+    check_sentences(sentences, pairs, d.t)?;
+    Ok(check_book(cells, d, crossings, pairs, sentences))
 }
 
 // The rows first, for a book that was checked.
@@ -133,14 +131,12 @@ fn check_against(
     crossings: &[u16],
     pairs: &[u16],
     sentences: &[u8],
-) -> Verdict
+) -> Result<Verdict, Refusal>
     requires { Accepted d cells.now }
     ensures { result ≡ checking cells.now crossings.now pairs.now sentences.now }
 {
-    match admit_rows(d, crossings.len(), pairs.len()) {
-        Checked::Refused(r) => Verdict::Refused(r),
-        Checked::Valid(_) => check_rows(cells, d, crossings, pairs, sentences),
-    }
+    admit_rows(d, crossings.len(), pairs.len())?;
+    check_rows(cells, d, crossings, pairs, sentences)
 }
 
 // Whether the certificate shows the map of the book in the cells: accepted, or the first condition that fails, in the order of `Condition`,
@@ -151,11 +147,9 @@ pub fn check_certificate(
     crossings: &[u16],
     pairs: &[u16],
     sentences: &[u8],
-) -> Verdict
+) -> Result<Verdict, Refusal>
     ensures { result ≡ checking cells.now crossings.now pairs.now sentences.now }
 {
-    match book::check(cells) {
-        Checked::Refused(r) => Verdict::Refused(r),
-        Checked::Valid(d) => check_against(cells, d, crossings, pairs, sentences),
-    }
+    let d = book::check(cells)?;
+    check_against(cells, d, crossings, pairs, sentences)
 }

@@ -13,9 +13,7 @@ fn fails_alone(condition: Condition, claim: u16) -> bool
         Condition::Range => claim > UNREACHED,
         Condition::Start => claim != 0,
         Condition::Short => claim == LONG,
-        Condition::Roads => false,
-        Condition::Transitions => false,
-        Condition::Sentences => false,
+        Condition::Roads | Condition::Transitions | Condition::Sentences => false,
     }
 }
 
@@ -23,12 +21,10 @@ fn fails_alone(condition: Condition, claim: u16) -> bool
 pub fn first_alone(condition: Condition, row: &[u16]) -> usize
     ensures { Lowest (InRow condition row.now) (length row.now) result }
 {
-    let mut k: usize = 0;
-    while k < row.len() {
-        if fails_alone(condition, row[k]) {
+    for (k, claim) in row.iter().enumerate() {
+        if fails_alone(condition, *claim) {
             return k;
         }
-        k += 1;
     }
-    k
+    row.len()
 }

@@ -7,7 +7,6 @@ mod claims;
 mod sentences;
 
 pub use check::check_certificate;
-use number::Refusal;
 
 // What a certificate is held to, in order: no claim over 1,002; no crossing over a road; each (0, z) at 0; no pair over another and one
 // transition; no pair long; each sentence as long as claimed, and reaching its pair within a run's limits.
@@ -21,10 +20,9 @@ pub enum Condition {
     Sentences,
 }
 
-// Accepted; or the first condition that fails, with the lowest index of a claim at which it does; or refused.
+// Accepted; or the first condition that fails, with the lowest index of a claim at which it does.
 #[derive(Clone, Copy)]
 pub enum Verdict {
     Accepted,
     Fault(Condition, usize),
-    Refused(Refusal),
 }

@@ -9,60 +9,41 @@ ghost use Rattle.certificate.specs.Sentences.{sentence_at, sentences_at, sentenc
 ghost use Rattle.certificate.specs.SentencesLaws.{spelled_end};
 ghost use Rattle.certificate.specs.Wrong.{Admitted, LowestWrong};
 
-use book::Sizes;
+use book::{Sizes, refuse_if};
 use lists::{admit, symbol_row};
 use machine::DEPTH;
-use number::{Cursor, Number, Refusal};
+use number::{Cause, Cursor, Refusal};
 use walk::LIMIT;
 use within::reaches;
 
 // The sentence at an offset; answers where it ends, or refusal 1, 2, 7 or 8 with its offset.
-fn sentence_at(bytes: &[u8], at: usize, t: usize) -> Number
+fn sentence_at(bytes: &[u8], at: usize, t: usize) -> Result<usize, Refusal>
     ensures { result ≡ ends (sentence_at t bytes.now at) }
 {
-    let found = admit(Cursor { at }.read(bytes), 0, 1001, 8, at);
-    let Number::Value(len, next) = found else {
-        return found;
-    };
-    let start = next.at;
-    symbol_row(bytes, start, len as usize, t)
+    let (len, next) = admit(Cursor { at }.read(bytes), 0, 1001, Cause::Length, at)?;
+    symbol_row(bytes, next.at, len as usize, t)
 }
 
 // The sentences of all pairs; answers where they end, or the refusal.
-fn sentence_row(bytes: &[u8], pairs: &[u16], t: usize) -> Number
+fn sentence_row(bytes: &[u8], pairs: &[u16], t: usize) -> Result<usize, Refusal>
     ensures { result ≡ spelled_end (sentences_at t bytes.now pairs.now 0) }
 {
     let mut at: usize = 0;
-    let mut k: usize = 0;
-    while k < pairs.len() {
-        if pairs[k] <= LIMIT {
-            let found = sentence_at(bytes, at, t);
-            let Number::Value(_, next) = found else {
-                return found;
-            };
-            at = next.at;
+    for claim in pairs {
+        if *claim <= LIMIT {
+            at = sentence_at(bytes, at, t)?;
         }
-        k += 1;
     }
-    Number::Value(0, Cursor { at })
+    Ok(at)
 }
 
 // Where the sentences of the pairs with these claims end, or refusal 1, 2, 7 or 8, or 6 where something follows.
-pub fn check_sentences(bytes: &[u8], pairs: &[u16], t: usize) -> Number
+pub fn check_sentences(bytes: &[u8], pairs: &[u16], t: usize) -> Result<usize, Refusal>
     ensures { result ≡ spelled_end (sentences_in t bytes.now pairs.now) }
 {
-    let last = sentence_row(bytes, pairs, t);
-    let Number::Value(_, next) = last else {
-        return last;
-    };
-    let at = next.at;
-    if at < bytes.len() {
-        return Number::Refused(Refusal {
-            number: 6,
-            place: at,
-        });
-    }
-    last
+    let at = sentence_row(bytes, pairs, t)?;
+    refuse_if(at < bytes.len(), Cause::Surplus, at)?;
+    Ok(at)
 }
 
 // Whether the sentence of the pair of index k has its claimed length and reaches its pair within a run's limits.
@@ -98,20 +79,17 @@ pub fn lowest_sentence(cells: &[u16], d: Sizes, bytes: &[u8], pairs: &[u16]) -> 
 {
     let mut stack = [0u16; DEPTH];
     let mut at: usize = 0;
-    let mut k: usize = 0;
-    while k < pairs.len() {
-        let claim = pairs[k];
-        if claim <= LIMIT {
-            let Number::Value(len, next) = Cursor { at }.read(bytes) else {
+    for (k, claim) in pairs.iter().enumerate() {
+        if *claim <= LIMIT {
+            let Ok((len, next)) = Cursor { at }.read(bytes) else {
                 return k;
             };
             let start = next.at;
             at = start + len as usize;
-            if !is_right(cells, d, &bytes[start..at], k, claim, &mut stack) {
+            if !is_right(cells, d, &bytes[start..at], k, *claim, &mut stack) {
                 return k;
             }
         }
-        k += 1;
     }
-    k
+    pairs.len()
 }

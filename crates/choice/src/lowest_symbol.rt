@@ -13,7 +13,7 @@ ghost use Rattle.search.specs.Settle.{SearchRoom};
 ghost use Rattle.choice.specs.Choice.{Completing, LowestBy};
 
 use book::Sizes;
-use search::{Found, search_with};
+use search::search_with;
 
 // Whether the terminal a is a symbol, not the end mark, under which the stack completes within r.
 fn completes(
@@ -48,13 +48,11 @@ fn completes(
     if a == 0 {
         return false;
     }
-    match search_with(
+    search_with(
         cells, d, table, rows, togo, due, len, left, pending, stack, a, r, values, on, next,
         next_on, events, done,
-    ) {
-        Found::At(_, _) => true,
-        Found::Nothing => false,
-    }
+    )
+    .is_some()
 }
 
 // The symbol of the lowest rank under which the stack completes within r, or T; the row has the terminals by rising rank.
@@ -87,9 +85,7 @@ pub fn lowest(
     ensures search_room_2 { SearchRoom values.new next.new events.new done.new }
     ensures lowest_by { LowestBy (place_in order.now) (Completing plain (tables_of cells.now) (claim_in d table.now) (end_cost (tables_of cells.now) left len (entry_in togo.now) (layer_in due.now)) stack.now r) d.t result }
 {
-    let t = d.t;
-    let mut k: usize = 0;
-    while k < t {
+    for k in 0..d.t {
         let a = order[k] as usize;
         if completes(
             cells, d, table, rows, togo, due, len, left, pending, stack, a, r, values, on, next,
@@ -97,7 +93,6 @@ pub fn lowest(
         ) {
             return a;
         }
-        k += 1;
     }
-    t
+    d.t
 }

@@ -59,8 +59,7 @@ pub fn choose(
     requires costs_len { (length costs.old ≡ 4096) × SearchRoom values.old next.old events.old done.old }
     ensures { Chose plain (place_in order.now) (Brings (tables_of cells.now) z (Aim (tables_of cells.now) breaks s z) (reverse (take depth stack.old))) n buffer.old buffer.new }
 {
-    let mut i: usize = 0;
-    while i < n {
+    for i in 0..n {
         let a = lowest(
             cells,
             d,
@@ -86,6 +85,5 @@ pub fn choose(
             cells, d, table, rows, pending, stack, depth, a, costs, values, on, next, next_on,
             events, done,
         );
-        i += 1;
     }
 }

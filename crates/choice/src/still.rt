@@ -16,9 +16,7 @@ pub fn still(distances: &[u8; 128], s: usize, a: usize, to: &mut [u16; 4096])
     requires { (s ≤ 128) × (a < 32) × (length distances.now ≡ 128) × (length to.old ≡ 4096) }
     ensures { Column distances.now a to.new s }
 {
-    let mut q: usize = 0;
-    while q < s {
+    for q in 0..s {
         to[q * 32 + a] = cost(distances[q]);
-        q += 1;
     }
 }

@@ -12,7 +12,7 @@ ghost use Rattle.choice.specs.Taking.{Stacked, Taken};
 use crate::still::still;
 use advance::{FAR, nearest, push_to_shift};
 use book::Sizes;
-use search::{Found, search_with};
+use search::search_with;
 
 // The stack is the first depth cells, bottom first, and comes to shift the terminal a; answers the new depth.
 pub fn take_in(
@@ -41,11 +41,10 @@ pub fn take_in(
     ensures costs_len_2 { (length costs.new ≡ 4096) × SearchRoom values.new next.new events.new done.new }
     ensures taken { Taken (tables_of cells.now) a stack.old depth stack.new result }
 {
-    let states = d.s;
     let mut to = [FAR; 128];
     nearest(cells, d, table, rows, a, &mut to);
-    still(&to, states, a, costs);
-    match search_with(
+    still(&to, d.s, a, costs);
+    let Some((kept, g)) = search_with(
         cells,
         d,
         table,
@@ -64,11 +63,9 @@ pub fn take_in(
         next_on,
         events,
         done,
-    ) {
-        Found::Nothing => depth,
-        Found::At(kept, g) => {
-            stack[kept] = g as u16;
-            push_to_shift(cells, d, table, &to, a, stack, kept + 1)
-        }
-    }
+    ) else {
+        return depth;
+    };
+    stack[kept] = g as u16;
+    push_to_shift(cells, d, table, &to, a, stack, kept + 1)
 }

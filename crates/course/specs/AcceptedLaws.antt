@@ -1,13 +1,12 @@
 -- Laws of a list that `check_list` accepted: its entries stand where it says. Assumes nothing.
-use Rattle.std.specs.Prelude.{List, ◌≡◌, refl, ℕ, length}
+use Rattle.std.specs.Prelude.{Ok, Err, List, ◌≡◌, refl, ℕ, length}
 use Rattle.std.proofs.Common.{ap}
 use Rattle.number.specs.Number.{number_at}
-use Rattle.number.specs.declared.Refusal.{Refusal}
+use Rattle.number.specs.declared.cause.Refusal.{Refusal}
 use Rattle.machine.specs.MachineLaws.{clash}
 use Rattle.lists.specs.List.{Listed, entries, refused, entries_at, list_of, listing, after}
 use Rattle.lists.proofs.ReadingLaws.{list-ahead}
 use Rattle.lists.specs.declared.Entry.{Entry}
-use Rattle.lists.specs.declared.Listing.TheVariants.{Entries, Refused as ListingRefused}
 use Rattle.lists.specs.declared.Rest.{Rest}
 use Rattle.items.specs.WrittenLaws.{after-some}
 use Rattle.course.specs.Turns.{EntriesStanding}
@@ -20,17 +19,17 @@ pub record ListAccepted (bytes : List ℕ) (l : Listed) (rest : Rest) : Type 0 w
   pub start : rest ≡ record { at = after (number_at bytes 0); left = length es }
 
 module _ (bytes : List ℕ) (l : Listed) where
-  pub list-accepted : {rest : Rest} → listing bytes l ≡ Entries rest → ListAccepted bytes l rest
+  pub list-accepted : {rest : Rest} → listing bytes l ≡ Ok rest → ListAccepted bytes l rest
   list-accepted {rest} e = go l refl e
     where
-      go : (m : Listed) → l ≡ m → listing bytes m ≡ Entries rest → ListAccepted bytes l rest
+      go : (m : Listed) → l ≡ m → listing bytes m ≡ Ok rest → ListAccepted bytes l rest
       go (refused r) f g = absurd (clash cc)
       go (entries es end) f g = record { es = es; end = end; list = f; start = cc }
 
-  pub list-refused : {r : Refusal} → listing bytes l ≡ ListingRefused r → l ≡ refused r
+  pub list-refused : {r : Refusal} → listing bytes l ≡ Err r → l ≡ refused r
   list-refused {r} e = go l refl e
     where
-      go : (m : Listed) → l ≡ m → listing bytes m ≡ ListingRefused r → l ≡ refused r
+      go : (m : Listed) → l ≡ m → listing bytes m ≡ Err r → l ≡ refused r
       go (refused q) f g = let same : q ≡ r = cc in rw same at f
       go (entries es end) f g = absurd (clash cc)
 

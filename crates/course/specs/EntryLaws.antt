@@ -1,5 +1,5 @@
 -- Laws of one entry: its run is admitted, ends in a state of the book, and leaves the cells after the stack's. Assumes nothing.
-use Rattle.std.specs.Prelude.{true, List, [], ◌∷◌, ◌++◌, reverse, ◌⊎◌, ◌≡◌, refl, ℕ, ◌+◌, ◌-◌, ◌≤◌, ◌<◌, length, take, drop, replicate}
+use Rattle.std.specs.Prelude.{true, List, [], ◌∷◌, ◌++◌, reverse, ◌⊎◌, ◌≡◌, refl, ℕ, ◌+◌, ◌-◌, ◌≤◌, ◌<◌, length, take, drop, replicate, Result}
 use Rattle.std.proofs.Common.{inl, inr, sym, ◌∙◌, ap₂, arith, length-append, length-drop, drop_at}
 use Rattle.std.proofs.Math.Decide.{dec_le}
 use Rattle.std.proofs.lemmas.List.{length-replicate, length-reverse}
@@ -27,7 +27,7 @@ use Rattle.items.specs.Items.{Item, item_of}
 use Rattle.course.specs.Course.{run_of, is_right, state_of, state_in}
 use Rattle.course.specs.CourseLaws.{right-ends}
 use Rattle.course.specs.Turns.{weighed}
-use Rattle.course.specs.declared.Verdict.{Verdict}
+use Rattle.course.specs.declared.Judgement.{Judgement}
 
 -- ---- the sentence
 module _ {t : ℕ} {bytes : List ℕ} {e : Entry} (s : Spelled t bytes e) where
@@ -99,7 +99,7 @@ module _ {d : Sizes} {cells bytes : List ℕ} {e : Entry} (lent : List ℕ) (h :
       let right : is_right (length (sentence bytes e)) (run_of (tables_of cells) (item_of bytes e)) ≡ true = ap₂ is_right (spelled-length s) (sym ending) ∙ r in
       rw ending (entry-right h s right)
 
-  pub ran-verdict : (i least : ℕ) (places : List ℕ) (v : Verdict) → v ≡ weighed i e.len least places y
+  pub ran-verdict : (i least : ℕ) (places : List ℕ) (v : Result ℕ Judgement) → v ≡ weighed i e.len least places y
       → v ≡ weighed i (length (sentence bytes e)) least places (run_of (tables_of cells) (item_of bytes e))
   ran-verdict i least places v w = w ∙ ap₂ (λ (n : ℕ) (z : Ending). weighed i n least places z) (sym (spelled-length s)) ending
 

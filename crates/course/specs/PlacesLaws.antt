@@ -1,5 +1,5 @@
 -- Laws of the places: which states have one, and which entry stands there. Assumes nothing.
-use Rattle.std.specs.Prelude.{not, ◌||◌, List, [], ◌∷◌, ◌++◌, ◌≡◌, refl, ℕ, ◌≤◌, ◌<◌, eqb, length, get_or, set, replicate}
+use Rattle.std.specs.Prelude.{Ok, not, ◌||◌, List, [], ◌∷◌, ◌++◌, ◌≡◌, refl, ℕ, ◌≤◌, ◌<◌, eqb, length, get_or, set, replicate}
 use Rattle.std.proofs.Common.{append-nil, arith, eq-eqb, ne_eqb, length-set, get_or-set_same, get_or-set_other}
 use Rattle.std.proofs.Math.Decide.{ℕ_discrete}
 use Rattle.std.proofs.lemmas.List.{length-replicate, get_or-replicate}
@@ -8,7 +8,6 @@ use Rattle.book.specs.Range.{among}
 use Rattle.book.specs.Tables.{Tables}
 use Rattle.lists.specs.Entry.{entry_at}
 use Rattle.lists.specs.declared.Entry.{Entry}
-use Rattle.lists.specs.declared.Step.TheVariants.{Found}
 use Rattle.items.specs.Items.{Item, item_of}
 use Rattle.course.specs.Course.{state_in, in_state}
 use Rattle.course.specs.CourseLaws.{in-state-append, in-state-here, in-state-other}
@@ -40,7 +39,7 @@ place-free none e = refl
 place-free (one l f) e = absurd (omega arith)
 
 pub places-more : (B : Tables) {t : ℕ} {bytes : List ℕ} (xs : List Item) (places : List ℕ) (at : ℕ) (e : Entry) (next : Cursor) → length places ≡ 128 → 1 ≤ at
-    → entry_at t bytes at ≡ Found e next → get_or places (state_in B (item_of bytes e)) 0 ≡ 0 → Places B t bytes xs places
+    → entry_at t bytes at ≡ Ok (e, next) → get_or places (state_in B (item_of bytes e)) 0 ≡ 0 → Places B t bytes xs places
     → Places B t bytes (xs ++ (item_of bytes e ∷ [])) (set places (state_in B (item_of bytes e)) at)
 unfolding in_state
 places-more B {t} {bytes} xs places at e next size l f free p q h = rw (in-state-append B q xs (item_of bytes e ∷ [])) (go (ℕ_discrete q s))

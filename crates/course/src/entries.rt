@@ -8,9 +8,9 @@ ghost use Rattle.items.specs.Items.{item_of};
 ghost use Rattle.course.specs.Course.{is_right, state_of, run_of};
 ghost use Rattle.course.specs.Turns.{weighed, EntriesStanding, EntriesPassed};
 
-use crate::{Faults, Judgement, Verdict};
+use crate::Judgement;
 use book::Sizes;
-use lists::{Entry, Next, next_at};
+use lists::{Entry, next_at};
 use machine::{Ending, drive, stop_of};
 
 // Whether a run ended as error or as broken with a whole sentence in, which has as many symbols as len says.
@@ -27,22 +27,28 @@ fn is_right(ending: Ending, len: usize) -> bool
     }
 }
 
-// The verdict on the entry of index i, whose run ended so. No state below `least` is in order; the states of the entries before have places.
-fn weigh(ending: Ending, i: usize, len: usize, least: u16, places: &[usize; 128]) -> Verdict
+// The state in which the run of the entry of index i ended, or the entry's fault, where it ended so. No state below `least` is in order; the states of the entries before have places.
+fn weigh(
+    ending: Ending,
+    i: usize,
+    len: usize,
+    least: u16,
+    places: &[usize; 128],
+) -> Result<u16, Judgement>
     requires { is_right len ending ≡ true → state_of ending < 128 }
     ensures { result ≡ weighed i len least places.now ending }
 {
     if !is_right(ending, len) {
-        return Verdict::Fault(Judgement::Wrong(i, ending));
+        return Err(Judgement::Wrong(i, ending));
     }
     let s = stop_of(ending).state;
     if s < least {
-        return Verdict::Fault(Judgement::OutOfOrder(i));
+        return Err(Judgement::OutOfOrder(i));
     }
     if places[s as usize] != 0 {
-        return Verdict::Fault(Judgement::Repeat(i));
+        return Err(Judgement::Repeat(i));
     }
-    Verdict::Right(s)
+    Ok(s)
 }
 
 // Runs the entry's sentence where it stands in the list.
@@ -55,7 +61,7 @@ fn judge_entry(
     least: u16,
     places: &[usize; 128],
     stack: &mut [u16],
-) -> Verdict
+) -> Result<u16, Judgement>
     requires holds { Holds d cells.now }
     requires spelled { Spelled d.t list.now e }
     requires in_bounds { 1024 ≤ length stack.old }
@@ -88,7 +94,7 @@ pub fn judge_entries(
     ordered: bool,
     places: &mut [usize; 128],
     stack: &mut [u16],
-) -> Faults
+) -> Result<(), Judgement>
     requires holds { Holds d cells.now }
     requires entries_standing { EntriesStanding d.t list.now first count }
     requires places_value { places.old ≡ replicate 128 0 }
@@ -100,19 +106,13 @@ pub fn judge_entries(
     let mut left = count;
     let mut i: usize = 0;
     let mut least: u16 = 0;
-    loop {
-        let Next::Found(e, rest) = next_at(list, at, left) else {
-            return Faults::None;
-        };
-        match judge_entry(cells, d, list, e, i, least, places, stack) {
-            Verdict::Fault(j) => return Faults::First(j),
-            Verdict::Right(s) => {
-                places[s as usize] = at;
-                least = least_after(ordered, s);
-            }
-        }
+    while let Some((e, rest)) = next_at(list, at, left) {
+        let s = judge_entry(cells, d, list, e, i, least, places, stack)?;
+        places[s as usize] = at;
+        least = least_after(ordered, s);
         at = rest.at;
         left = rest.left;
         i += 1;
     }
+    Ok(())
 }

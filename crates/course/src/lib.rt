@@ -5,7 +5,6 @@ mod entries;
 
 pub use entries::judge_entries;
 use machine::Ending;
-use number::Refusal;
 
 // The judgement of a list: the first fault with its entry's index, else the lowest state that has a failing pair and no entry, else complete.
 #[derive(Clone, Copy)]
@@ -15,19 +14,4 @@ pub enum Judgement {
     Repeat(usize),
     Uncovered(u16),
     Complete,
-    Refused(Refusal),
-}
-
-// One entry: the state in which its run ended, or its fault.
-#[derive(Clone, Copy)]
-enum Verdict {
-    Right(u16),
-    Fault(Judgement),
-}
-
-// All entries: the first fault, or none.
-#[derive(Clone, Copy)]
-pub enum Faults {
-    None,
-    First(Judgement),
 }

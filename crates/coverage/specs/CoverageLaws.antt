@@ -1,5 +1,5 @@
 -- Laws of the judgement of a joined list: it goes by the states that either list covers. Assumes nothing.
-use Rattle.std.specs.Prelude.{Bool, true, false, not, ◌&&◌, ◌||◌, List, [], ◌∷◌, ◌++◌, ◌⊎◌, ◌≡◌, eqb, take}
+use Rattle.std.specs.Prelude.{Ok, Bool, true, false, not, ◌&&◌, ◌||◌, List, [], ◌∷◌, ◌++◌, ◌⊎◌, ◌≡◌, eqb, take}
 use Rattle.std.proofs.Math.Bool.{or-true, or_assoc}
 use Rattle.std.proofs.Common.{inl, inr, sym, ◌∙◌, ap₂, arith}
 use Rattle.std.proofs.Math.Path.{refl}
@@ -17,7 +17,6 @@ use Rattle.course.specs.declared.Judgement.TheVariants.{Uncovered, Complete}
 use Rattle.judgement.specs.CoverageLaws.{lowest-same}
 use Rattle.judgement.specs.Judgement.{Fails, DecidesFails, lowest_state, uncovered, faultless, JudgedIn}
 use Rattle.joining.specs.Joining.{joins}
-use Rattle.joining.specs.declared.Joined.TheVariants.{Count}
 use Rattle.coverage.specs.JoiningLaws.{JoinedList, join-accepted}
 
 among-append : (s : ℕ) (ss us : List ℕ) → among s (ss ++ us) ≡ (among s ss || among s us)
@@ -43,7 +42,7 @@ module _ (lacks : ℕ → Bool) where
 -- ---- two lists, the states that each covers, and what joining them left
 module _ (d : Sizes) (cells : List ℕ) (h : Accepted d cells) (first second : List ℕ) {es fs : List Entry} {end last : ℕ} (l : list_in cells first ≡ entries es end)
     (m : list_in cells second ≡ entries fs last) {firsts seconds : List ℕ} (c : course true (tables_of cells) 0 [] (items first es) ≡ clean firsts)
-    (g : course true (tables_of cells) 0 [] (items second fs) ≡ clean seconds) (lent : List ℕ) {out : List ℕ} {n : ℕ} (e : joins cells first second lent ≡ (Count n, out))
+    (g : course true (tables_of cells) 0 [] (items second fs) ≡ clean seconds) (lent : List ℕ) {out : List ℕ} {n : ℕ} (e : joins cells first second lent ≡ (Ok n, out))
     (fails : ℕ → Bool) (x : DecidesFails (tables_of cells) fails) where
   result : JoinedList cells (items first es) (items second fs) (take n out)
   result = join-accepted d cells h first second l m lent e

@@ -1,10 +1,10 @@
 -- The table of Bracket's list, proved by computation: in each of its states an entry of the list fails. Assumes nothing.
-use Rattle.std.specs.Prelude.{Bool, true, List, [], ◌∷◌, ◌≡◌, refl, ℕ, zero, suc, ◌≤◌, ◌<◌, length}
+use Rattle.std.specs.Prelude.{true, List, [], ◌∷◌, ◌≡◌, refl, ℕ, zero, suc, ◌<◌, length}
 use Rattle.std.proofs.Common.{arith}
 use Rattle.number.specs.Number.{number_at, first}
 use Rattle.book.specs.Action.{action_of}
 use Rattle.book.specs.Book.{of_cells, book_in, row, parts_in, cell_at}
-use Rattle.book.specs.Range.{allowed, fits, fault, fault_number}
+use Rattle.book.specs.Range.{allowed, fits, fault, fault_cause}
 use Rattle.book.specs.Tables.{Tables, tables_of, sizes_of}
 use Rattle.machine.specs.Machine.{Terminals, none, more, next}
 use Rattle.machine.specs.Run.{runs, reducing}
@@ -44,6 +44,6 @@ unfolding bracket tables_of sizes_of
 all-fail s h = (λ e. state-fails s h, λ f. refl)
 
 pub list-lines : AllJudged list_lines
-unfolding list_lines bracket_list shortened bracket list_in list_of entries_at entry_at outside number_at first of_cells book_in row parts_in cell_at fault fault_number fits allowed action_of sizes_of tables_of next reducing runs course lowest_state
+unfolding list_lines bracket_list shortened bracket list_in list_of entries_at entry_at outside number_at first of_cells book_in row parts_in cell_at fault fault_cause fits allowed action_of sizes_of tables_of next reducing runs course lowest_state
 list-lines =
     ((_, _, refl, faultless (5 ∷ 4 ∷ 3 ∷ 2 ∷ 1 ∷ 0 ∷ []) (λ s. true) refl all-fail), ((_, _, refl, faultless (5 ∷ 4 ∷ 3 ∷ 1 ∷ 0 ∷ []) (λ s. true) refl all-fail), tt))

@@ -1,5 +1,5 @@
 -- Laws of joining: what the joined list is, which lists it gives back, and on what it does not depend. Assumes nothing.
-use Rattle.std.specs.Prelude.{true, ◌||◌, ◌≡◌, ℕ, ◌≤◌, ◌<◌, length, take}
+use Rattle.std.specs.Prelude.{Result, Ok, true, ◌||◌, ◌≡◌, ℕ, ◌≤◌, ◌<◌, length, take}
 use mathlib.Core.List.{List, [], ◌∷◌}
 use Rattle.std.proofs.Math.Path.{refl, sym}
 use Rattle.std.proofs.Common.{◌∙◌, ap, arith}
@@ -27,8 +27,8 @@ use Rattle.sorting.specs.Sorting.{by_state}
 use Rattle.sorting.proofs.SortingLaws.{list-of, read-so, list-valid, list-below, ordered-bytes}
 use Rattle.joining.specs.Joining.{shorter, joined, joined_bytes, joined_by, joins}
 use Rattle.coverage.specs.UnionLaws.{joined-self, joined-none, none-joined, joined-valid, joined-clean, joined_length, joined-in-state, joined-covers}
-use Rattle.joining.specs.declared.Joined.{Joined}
-use Rattle.joining.specs.declared.Joined.TheVariants.{Count, Refused}
+use Rattle.joining.specs.declared.Unjoined.{Unjoined}
+use Rattle.joining.specs.declared.Unjoined.TheVariants.{Refused}
 
 -- ---- entries that were joined into lent bytes
 record IsJoined (B : Tables) (xs ys : List Item) (lent : List ℕ) (n : ℕ) (out : List ℕ) : Type 0 where
@@ -39,13 +39,13 @@ record IsJoined (B : Tables) (xs ys : List Item) (lent : List ℕ) (n : ℕ) (ou
   pub fits : Fits (joined_bytes B xs ys) lent n out
 
 joined_by_lem : {B : Tables} {xs ys : List Item} {lent out : List ℕ} {n : ℕ}
-    → joined_by (joined_bytes B xs ys) (course true B 0 [] xs) (course true B 0 [] ys) lent ≡ (Count n, out) → IsJoined B xs ys lent n out
+    → joined_by (joined_bytes B xs ys) (course true B 0 [] xs) (course true B 0 [] ys) lent ≡ (Ok n, out) → IsJoined B xs ys lent n out
 joined_by_lem {B} {xs} {ys} {lent} {out} {n} e = go (course true B 0 [] xs) (course true B 0 [] ys) refl refl e
   where
-    answer : {p q : Joined × List ℕ} → p ≡ q → p.0 ≡ q.0
-    answer f = ap (λ (p : Joined × List ℕ). p.0) f
+    answer : {p q : Result ℕ Unjoined × List ℕ} → p ≡ q → p.0 ≡ q.0
+    answer f = ap (λ (p : Result ℕ Unjoined × List ℕ). p.0) f
 
-    go : (a b : Course) → course true B 0 [] xs ≡ a → course true B 0 [] ys ≡ b → joined_by (joined_bytes B xs ys) a b lent ≡ (Count n, out) → IsJoined B xs ys lent n out
+    go : (a b : Course) → course true B 0 [] xs ≡ a → course true B 0 [] ys ≡ b → joined_by (joined_bytes B xs ys) a b lent ≡ (Ok n, out) → IsJoined B xs ys lent n out
     go (fault j) b f g k = absurd (clash (cc (answer k)))
     go (clean firsts) (fault j) f g k = absurd (clash (cc (answer k)))
     go (clean firsts) (clean seconds) f g k = record {
@@ -53,7 +53,7 @@ joined_by_lem {B} {xs} {ys} {lent} {out} {n} e = go (course true B 0 [] xs) (cou
       seconds = seconds;
       first-faultless = f;
       second-faultless = g;
-      fits = told-fits Count Refused (joined_bytes B xs ys) lent (λ m h. cc) (λ r h. clash cc) k;
+      fits = told-fits Refused (joined_bytes B xs ys) lent k;
     }
 
 -- ---- the list that has the entries of two lists joined
@@ -81,15 +81,15 @@ module _ (d : Sizes) (cells : List ℕ) (h : Accepted d cells) where
   states-few = rw (← (accepted-book cells d h).sizes) (accepted-book cells d h).small.states
 
   module _ (first second : List ℕ) {es fs : List Entry} {end last : ℕ} (l : list_in cells first ≡ entries es end) (m : list_in cells second ≡ entries fs last) where
-    told-joined : {lent out : List ℕ} {n : ℕ} → joins cells first second lent ≡ (Count n, out) → IsJoined (tables_of cells) (items first es) (items second fs) lent n out
+    told-joined : {lent out : List ℕ} {n : ℕ} → joins cells first second lent ≡ (Ok n, out) → IsJoined (tables_of cells) (items first es) (items second fs) lent n out
     unfolding joins
     told-joined e = joined_by_lem (rw (h, read-so d cells h first l, read-so d cells h second m) at e)
 
     joined-told : {firsts seconds : List ℕ} (r lent : List ℕ) → course true (tables_of cells) 0 [] (items first es) ≡ clean firsts
         → course true (tables_of cells) 0 [] (items second fs) ≡ clean seconds → joined_bytes (tables_of cells) (items first es) (items second fs) ≡ r
-        → length r ≤ length lent → joins cells first second lent ≡ (Count (length r), over r lent)
+        → length r ≤ length lent → joins cells first second lent ≡ (Ok (length r), over r lent)
     unfolding joins
-    joined-told r lent c f e room = rw (h, read-so d cells h first l, read-so d cells h second m, c, f, e) (fits_told Count Refused r lent refl room)
+    joined-told r lent c f e room = rw (h, read-so d cells h first l, read-so d cells h second m, c, f, e) (fits_told Refused r lent refl room)
 
     join-list : {firsts seconds : List ℕ} → course true (tables_of cells) 0 [] (items first es) ≡ clean firsts
         → course true (tables_of cells) 0 [] (items second fs) ≡ clean seconds
@@ -120,7 +120,7 @@ module _ (d : Sizes) (cells : List ℕ) (h : Accepted d cells) where
           each = λ s k. ap (in_state B s) says ∙ joined-in-state B xs ys c f B.states s k;
         }
 
-    module _ (lent : List ℕ) {out : List ℕ} {n : ℕ} (e : joins cells first second lent ≡ (Count n, out)) where
+    module _ (lent : List ℕ) {out : List ℕ} {n : ℕ} (e : joins cells first second lent ≡ (Ok n, out)) where
       pub join-bytes : take n out ≡ joined_bytes (tables_of cells) (items first es) (items second fs)
       join-bytes = fits-front (told-joined e).fits
 
@@ -141,17 +141,17 @@ module _ (d : Sizes) (cells : List ℕ) (h : Accepted d cells) where
     kept xs ys e = ap list_bytes e ∙ ordered-bytes d cells h bytes l b c
 
     -- joined with itself
-    pub join-self : joins cells bytes bytes lent ≡ (Count (length bytes), over bytes lent)
+    pub join-self : joins cells bytes bytes lent ≡ (Ok (length bytes), over bytes lent)
     join-self =
         joined-told bytes bytes l l bytes lent c c (kept (items bytes es) (items bytes es) (joined-self (tables_of cells) (items bytes es) (tables_of cells).states)) room
 
     -- joined with the empty list, on either side
-    pub join-empty : joins cells bytes (0 ∷ []) lent ≡ (Count (length bytes), over bytes lent)
+    pub join-empty : joins cells bytes (0 ∷ []) lent ≡ (Ok (length bytes), over bytes lent)
     unfolding course
     join-empty =
         joined-told bytes (0 ∷ []) l empty-list bytes lent c refl (kept (items bytes es) [] (joined-none (tables_of cells) (items bytes es) (tables_of cells).states)) room
 
-    pub empty-join : joins cells (0 ∷ []) bytes lent ≡ (Count (length bytes), over bytes lent)
+    pub empty-join : joins cells (0 ∷ []) bytes lent ≡ (Ok (length bytes), over bytes lent)
     unfolding course
     empty-join =
         joined-told (0 ∷ []) bytes empty-list l bytes lent refl c (kept [] (items bytes es) (none-joined (tables_of cells) (items bytes es) (tables_of cells).states)) room

@@ -25,12 +25,9 @@ pub fn longest(cells: &[u16], d: Sizes, q: usize) -> usize
     requires q_lt_s { q < d.s }
     ensures { LongestFrom (tables_of cells.now) q d.p result }
 {
-    let n = d.p;
-    let mut r: usize = 0;
-    let mut p: usize = 0;
-    while p < n {
+    let mut r = 0;
+    for p in 0..d.p {
         r = longer(cells, d, q, p, r);
-        p += 1;
     }
     r
 }

@@ -14,12 +14,7 @@ pub fn is_error(cells: &[u16], d: Sizes, s: usize, z: usize) -> bool
     requires s_lt_s { (s < d.s) × (z < d.t) }
     ensures { result ≡ is_error ((tables_of cells.now).act s z) }
 {
-    match action_at(cells, d, s, z) {
-        Action::Error => true,
-        Action::Accept => false,
-        Action::Shift(_) => false,
-        Action::Reduce(_) => false,
-    }
+    matches!(action_at(cells, d, s, z), Action::Error)
 }
 
 // Whether a table has a cost for (s, z).
@@ -44,7 +39,8 @@ pub fn pair_fails(
     ensures { result ≡ fails_in cells.now dist.now broken.now s z }
 {
     if is_error(cells, d, s, z) {
-        return has_cost(dist, s, z);
+        has_cost(dist, s, z)
+    } else {
+        has_cost(broken, s, z)
     }
-    has_cost(broken, s, z)
 }

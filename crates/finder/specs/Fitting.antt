@@ -2,11 +2,10 @@
 use Rattle.std.specs.Prelude.{List, ℕ, ◌≤◌, length}
 use Rattle.walk.specs.Scale.{plain}
 use Rattle.finder.specs.declared.Found.{Found}
-use Rattle.finder.specs.declared.Found.TheVariants.{Unreached, Long, Sentence, Refused}
+use Rattle.finder.specs.declared.Found.TheVariants.{Unreached, Long, Sentence}
 
--- a sentence that was found stands in the buffer; no pair of a book is refused
+-- a sentence that was found stands in the buffer
 abbrev pub Fitting : Found → List ℕ → Type 0
 Fitting Unreached buffer = Unit {0}
 Fitting Long buffer = Unit {0}
 Fitting (Sentence n) buffer = (n ≤ plain.limit) × (n ≤ length buffer)
-Fitting (Refused r) buffer = ⊥

@@ -1,21 +1,25 @@
 // What is checked before a search, after the book: the pair, and the room that is lent.
-ghost use Rattle.std.specs.Prelude.{◌≡◌};
+ghost use Rattle.std.specs.Prelude.{Ok, ◌≡◌};
 ghost use Rattle.book.specs.Call.{steps};
-ghost use Rattle.book.specs.declared.Checked.TheVariants.{Valid};
 ghost use Rattle.book.specs.RangeLaws.{Small};
 ghost use Rattle.finder.specs.Finder.{pair_refusals};
 
-use book::{Checked, Sizes};
+use book::Sizes;
+use number::{Cause, Refusal};
 use walk::LIMIT;
 use work::work_cells;
 
-pub fn admit_pair(d: Sizes, s: u16, z: u16, work: usize, buffer: usize) -> Checked
+pub fn admit_pair(d: Sizes, s: u16, z: u16, work: usize, buffer: usize) -> Result<Sizes, Refusal>
     requires { Small d }
-    ensures { result ≡ steps (Valid d) (pair_refusals s z work buffer d) }
+    ensures { result ≡ steps (Ok d) (pair_refusals s z work buffer d) }
 {
-    Checked::Valid(d)
-        .unless(s as usize >= d.s, 10, 0)
-        .unless(z as usize >= d.t, 11, 0)
-        .unless(work < work_cells(d), 13, 0)
-        .unless(buffer < LIMIT as usize, 12, 0)
+    book::admit(
+        d,
+        &[
+            (s as usize >= d.s, Cause::State, 0),
+            (z as usize >= d.t, Cause::Lookahead, 0),
+            (work < work_cells(d), Cause::Room, 0),
+            (buffer < LIMIT as usize, Cause::Output, 0),
+        ],
+    )
 }

@@ -10,10 +10,11 @@ ghost use Rattle.finder.specs.Finder.{Answered, FindsAs, Finds, FindsBreak};
 use crate::Found;
 use crate::admission::admit_pair;
 use crate::prepared::answer;
-use book::{Checked, Sizes};
+use book::Sizes;
 use crossings::crossings;
 use forms::{PLAIN, by_rank, plain_cells, plain_sizes};
 use layers::open_rows;
+use number::Refusal;
 use work::{clear, work_cells};
 
 // The answer for plain cells and the terminals by rank, in room that is enough.
@@ -82,14 +83,12 @@ fn find_in(
     z: u16,
     work: &mut [u16],
     buffer: &mut [u8],
-) -> Found
+) -> Result<Found, Refusal>
     requires { Accepted d cells.now }
     ensures { FindsAs breaks cells.now s z work.old buffer.old (result, (work.new, buffer.new)) }
 {
-    match admit_pair(d, s, z, work.len(), buffer.len()) {
-        Checked::Refused(r) => Found::Refused(r),
-        Checked::Valid(_) => solve(cells, d, breaks, s as usize, z as usize, work, buffer),
-    }
+    admit_pair(d, s, z, work.len(), buffer.len())?;
+    Ok(solve(cells, d, breaks, s as usize, z as usize, work, buffer))
 }
 
 // The answer of either kind for a book that is checked first.
@@ -100,24 +99,34 @@ fn find_as(
     z: u16,
     work: &mut [u16],
     buffer: &mut [u8],
-) -> Found
+) -> Result<Found, Refusal>
     ensures { FindsAs breaks cells.now s z work.old buffer.old (result, (work.new, buffer.new)) }
 {
-    match book::check(cells) {
-        Checked::Refused(r) => Found::Refused(r),
-        Checked::Valid(d) => find_in(cells, d, breaks, s, z, work, buffer),
-    }
+    let d = book::check(cells)?;
+    find_in(cells, d, breaks, s, z, work, buffer)
 }
 
 // What reaches the pair. A sentence is written at the front of the buffer.
-pub fn find(cells: &[u16], s: u16, z: u16, work: &mut [u16], buffer: &mut [u8]) -> Found
+pub fn find(
+    cells: &[u16],
+    s: u16,
+    z: u16,
+    work: &mut [u16],
+    buffer: &mut [u8],
+) -> Result<Found, Refusal>
     ensures { Finds cells.now s z work.old buffer.old (result, (work.new, buffer.new)) }
 {
     find_as(cells, false, s, z, work, buffer)
 }
 
 // With what the reduction of the pair breaks: Unreached if with nothing.
-pub fn find_break(cells: &[u16], s: u16, z: u16, work: &mut [u16], buffer: &mut [u8]) -> Found
+pub fn find_break(
+    cells: &[u16],
+    s: u16,
+    z: u16,
+    work: &mut [u16],
+    buffer: &mut [u8],
+) -> Result<Found, Refusal>
     ensures { FindsBreak cells.now s z work.old buffer.old (result, (work.new, buffer.new)) }
 {
     find_as(cells, true, s, z, work, buffer)

@@ -1,5 +1,5 @@
 -- Laws of books that differ in no more than form and ranks, and of a book in its own form and back. Assumes nothing.
-use Rattle.std.specs.Prelude.{not, List, [], ◌∷◌, ◌++◌, ◌≢◌, ◌≡◌, ℕ, ◌≤◌, ◌<◌, eqb, length, get_or, drop}
+use Rattle.std.specs.Prelude.{Ok, not, List, [], ◌∷◌, ◌++◌, ◌≢◌, ◌≡◌, ℕ, ◌≤◌, ◌<◌, eqb, length, get_or, drop}
 use Rattle.std.proofs.Math.Path.{refl}
 use Rattle.std.proofs.Common.{sym, ◌∙◌, ap, ap₂, zero-add, arith, eq-eqb, le-leb, ext_get_or}
 use std.Path.{fun_ext}
@@ -15,7 +15,6 @@ use Rattle.book.specs.TablesLaws.{Accepted, IsBook}
 use Rattle.book.proofs.TablesLaws.{accepted-book}
 use Rattle.book.specs.declared.Part.TheVariants.{Ranks}
 use Rattle.book.specs.declared.Sizes.{Sizes}
-use Rattle.book.specs.declared.Written.TheVariants.{Count}
 use Rattle.forms.specs.Forms.{in_form, in_form_1, in_form_2, lowest, in_order, to_form_1, to_form_2}
 use Rattle.forms.specs.FormsLaws.{with_form}
 use Rattle.forms.proofs.FormsLaws.{Split, book-split, split-accepted, in-form, reformed, rank-cell, reformed-rank, last-form, plain-holds, plain-tables}
@@ -118,18 +117,18 @@ module _ (d : Sizes) (cells : List ℕ) (e : Accepted d cells) where
 
 -- what the converters deliver to one of the wanted form is the book itself, and so is what they deliver there and back
 module _ (d : Sizes) (cells : List ℕ) (e : Accepted d cells) (lent : List ℕ) (room : length cells ≤ length lent) where
-  delivers : (f : List ℕ → List ℕ) (other : List ℕ) (w : Row) → w ≡ read other (length other) → f other ≡ cells → delivered f w lent ≡ (Count (length cells), over cells lent)
+  delivers : (f : List ℕ → List ℕ) (other : List ℕ) (w : Row) → w ≡ read other (length other) → f other ≡ cells → delivered f w lent ≡ (Ok (length cells), over cells lent)
   delivers f other w g same = rw (g, same, le-leb (length cells) (length lent) room)
 
-  pub to-form-1-kept : d.form ≡ 1 → to_form_1 cells lent ≡ (Count (length cells), over cells lent)
+  pub to-form-1-kept : d.form ≡ 1 → to_form_1 cells lent ≡ (Ok (length cells), over cells lent)
   unfolding to_form_1
   to-form-1-kept f = delivers in_form_1 cells _ (ordered d cells e (λ a l. rank-number d cells e a (λ g. omega (arith, f, g)))) (form1-kept d cells e f)
 
-  pub to-form-2-kept : d.form ≡ 2 → to_form_2 cells lent ≡ (Count (length cells), over cells lent)
+  pub to-form-2-kept : d.form ≡ 2 → to_form_2 cells lent ≡ (Ok (length cells), over cells lent)
   unfolding to_form_2
   to-form-2-kept f = delivers in_form_2 cells _ (accepted-book cells d e).book (form2-kept d cells e f)
 
-  pub there_and_back : d.form ≡ 1 → to_form_1 (in_form_2 cells) lent ≡ (Count (length cells), over cells lent)
+  pub there_and_back : d.form ≡ 1 → to_form_1 (in_form_2 cells) lent ≡ (Ok (length cells), over cells lent)
   unfolding to_form_1
   there_and_back f =
       let a = form2-alike d cells e in

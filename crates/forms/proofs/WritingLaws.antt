@@ -1,5 +1,7 @@
 -- Laws of the code that writes a book in another form. Assumes nothing.
-use Rattle.std.specs.Prelude.{not, List, [], ◌∷◌, ◌++◌, ◌≡◌, ℕ, suc, ◌+◌, ◌*◌, ◌-◌, ◌≤◌, ◌<◌, eqb, length, take, drop, set}
+use Rattle.number.specs.declared.cause.Cause.{Cause}
+use Rattle.number.specs.Number.{refused_at}
+use Rattle.std.specs.Prelude.{Err, not, List, [], ◌∷◌, ◌++◌, ◌≡◌, ℕ, suc, ◌+◌, ◌*◌, ◌-◌, ◌≤◌, ◌<◌, eqb, length, take, drop, set}
 use Rattle.std.proofs.Common.{append_assoc, sym, ◌∙◌, ap, arith, length-append, length-drop, length-take-le}
 use borrow.Author.Tests.{lt-ltb, le-ltb}
 use Rattle.std.proofs.Math.Seq.{paste}
@@ -13,7 +15,6 @@ use Rattle.book.specs.TablesLaws.{Accepted, IsBook}
 use Rattle.book.proofs.TablesLaws.{accepted-book}
 use Rattle.book.specs.declared.Part.TheVariants.{Ranks}
 use Rattle.book.specs.declared.Sizes.{Sizes}
-use Rattle.book.specs.declared.Written.TheVariants.{Refused as WrittenRefused}
 use Rattle.forms.specs.Forms.{in_form, in_form_1, in_form_2, lowest, in_order, to_form_1}
 
 -- how long a book is, and its parts before the tables
@@ -97,7 +98,7 @@ module _ (d : Sizes) (cells : List ℕ) (e : Accepted d cells) where
   abbrev pub moved : ℕ
   moved = lowest (λ a. not (eqb (rank_of cells a) a)) d.t 0
 
-  pub moved-refused : (lent : List ℕ) → moved < d.t → (WrittenRefused (record { number = 17; place = 5 + 2 * d.p + moved }), lent) ≡ to_form_1 cells lent
+  pub moved-refused : (lent : List ℕ) → moved < d.t → (Err (refused_at Cause.Order (5 + 2 * d.p + moved)), lent) ≡ to_form_1 cells lent
   unfolding to_form_1
   moved-refused lent h = rw (book.book, ← book.sizes, lt-ltb moved d.t h)
 

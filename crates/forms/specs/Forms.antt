@@ -1,9 +1,12 @@
 -- The forms of a book, and the converters from one to the other. Assumes nothing.
-use Rattle.std.specs.Prelude.{Bool, cond, not, List, [], ◌∷◌, ◌++◌, take, drop, ℕ, zero, suc, ◌+◌, ltb, eqb}
+use Rattle.number.specs.declared.cause.Cause.{Cause}
+use Rattle.number.specs.Number.{refused_at}
+use Rattle.number.specs.declared.cause.Refusal.{Refusal}
+use Rattle.std.specs.Prelude.{Result, Bool, cond, not, List, [], ◌∷◌, ◌++◌, take, drop, ℕ, zero, suc, ◌+◌, ltb, eqb}
 use Rattle.number.specs.Lent.{firsts}
 use Rattle.book.specs.Book.{Row, of_cells, delivered}
 use Rattle.book.specs.Tables.{sizes_of, part_start, rank_of}
-use Rattle.book.specs.declared.{Part.Part, Written.Written}
+use Rattle.book.specs.declared.{Part.Part}
 
 -- the book of the cells with another form and other ranks: all that stands before the ranks and after them stays
 unfoldable pub in_form : ℕ → List ℕ → List ℕ → List ℕ
@@ -30,12 +33,12 @@ in_order (Row.refused r) = Row.refused r
 in_order (Row.read cells at) =
     let d = sizes_of cells in
     let a = lowest (λ a. not (eqb (rank_of cells a) a)) d.t 0 in
-    cond (ltb a d.t) (Row.refused (record { number = 17; place = part_start d Part.Ranks + a })) (Row.read cells at)
+    cond (ltb a d.t) (Row.refused (refused_at Cause.Order (part_start d Part.Ranks + a))) (Row.read cells at)
 
 -- what the converters answer and leave in the lent cells: 'A converter turns form 1 into form 2, and back where each rank is its terminal's
 -- number'. 'a book of the wanted form returns as it is' is a law
-unfoldable pub to_form_1 : List ℕ → List ℕ → Written × List ℕ
+unfoldable pub to_form_1 : List ℕ → List ℕ → Result ℕ Refusal × List ℕ
 to_form_1 cells lent = delivered in_form_1 (in_order (of_cells cells)) lent
 
-unfoldable pub to_form_2 : List ℕ → List ℕ → Written × List ℕ
+unfoldable pub to_form_2 : List ℕ → List ℕ → Result ℕ Refusal × List ℕ
 to_form_2 cells lent = delivered in_form_2 (of_cells cells) lent

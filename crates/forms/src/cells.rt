@@ -7,9 +7,5 @@ pub fn copy(from: &[u16], start: usize, n: usize, to: &mut [u16], at: usize)
     requires { (start + n ≤ length from.now) × (at + n ≤ length to.old) }
     ensures { to.new ≡ paste to.old at (drop start from.now) n }
 {
-    let mut i: usize = 0;
-    while i < n {
-        to[at + i] = from[start + i];
-        i += 1;
-    }
+    to[at..at + n].copy_from_slice(&from[start..start + n]);
 }

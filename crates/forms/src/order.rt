@@ -11,10 +11,7 @@ pub fn by_rank(cells: &[u16], d: Sizes, order: &mut [u8; 32])
     ensures { ByRank cells.now d order.new }
 {
     *order = [0; 32];
-    let t = d.t;
-    let mut a: usize = 1;
-    while a < t {
+    for a in 1..d.t {
         order[rank_at(cells, d, a) as usize] = a as u8;
-        a += 1;
     }
 }

@@ -12,13 +12,7 @@ use book::{Sizes, rank_count};
 pub fn plain_sizes(d: Sizes) -> Sizes
     ensures { result ≡ with_form 1 d }
 {
-    Sizes {
-        form: 1,
-        t: d.t,
-        n: d.n,
-        s: d.s,
-        p: d.p,
-    }
+    Sizes { form: 1, ..d }
 }
 
 // Writes the form, the rest of the head and the productions.

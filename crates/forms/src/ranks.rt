@@ -25,15 +25,12 @@ pub fn first_moved(cells: &[u16], d: Sizes) -> usize
     requires { Accepted d cells.now }
     ensures { result ≡ lowest (λ a. not (eqb (rank_of cells.now a) a)) d.t 0 }
 {
-    let t = d.t;
-    let mut a: usize = 0;
-    while a < t {
+    for a in 0..d.t {
         if rank_at(cells, d, a) as usize != a {
             return a;
         }
-        a += 1;
     }
-    a
+    d.t
 }
 
 // Writes the T ranks from a place on.
@@ -42,10 +39,7 @@ pub fn put_ranks(cells: &[u16], d: Sizes, to: &mut [u16], at: usize)
     requires t_in_bounds { at + d.t ≤ length to.old }
     ensures { to.new ≡ paste to.old at (firsts (rank_of cells.now) d.t) d.t }
 {
-    let t = d.t;
-    let mut a: usize = 0;
-    while a < t {
+    for a in 0..d.t {
         to[at + a] = rank_at(cells, d, a);
-        a += 1;
     }
 }

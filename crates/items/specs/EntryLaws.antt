@@ -1,18 +1,17 @@
 -- Laws of one entry: what holds of one that was read, which bytes it has, and that these are read back. Assumes nothing.
-use Rattle.std.specs.Prelude.{List, [], ◌∷◌, ◌++◌, ◌≡◌, refl, ℕ, suc, ◌+◌, ◌≤◌, ◌<◌, length, get_or, drop}
-use Rattle.std.proofs.Common.{append_assoc, append-nil, sym, ◌∙◌, ap, arith, eq-eqb, length-append, take-append-drop, drop-drop, get_or-drop}
+use Rattle.std.specs.Prelude.{None, Ok, List, [], ◌∷◌, ◌++◌, ◌≡◌, refl, ℕ, suc, ◌+◌, ◌≤◌, ◌<◌, length, get_or, drop}
+use Rattle.std.proofs.Common.{append_assoc, append-nil, sym, ◌∙◌, ap, arith, length-append, take-append-drop, drop-drop, get_or-drop}
 use Rattle.std.proofs.Math.Seq.{take-append_seam}
 use Rattle.number.specs.Number.{number_at, written, value}
 use Rattle.number.specs.NumberLaws.{Bytes, byte_at, written_one, first-stands, number-onward}
 use Rattle.number.specs.declared.Cursor.{Cursor}
-use Rattle.number.specs.declared.Number.TheVariants.{Value}
+use Rattle.number.specs.declared.cause.Cause.{Cause}
 use Rattle.book.specs.Book.{read, row, bytes_of}
 use Rattle.book.specs.BytesLaws.{bytes-append}
 use Rattle.book.specs.RoundTripLaws.{past, number-written}
 use Rattle.lists.specs.Entry.{length_fault, symbol_row, lookahead_fault, entry_at, part}
 use Rattle.lists.proofs.EntryLaws.{part_length, outside-none, entry-parts, entry-spelled, one_byte, number_small, symbols-read}
 use Rattle.lists.specs.declared.Entry.{Entry}
-use Rattle.lists.specs.declared.Step.TheVariants.{Found}
 use Rattle.items.specs.Items.{Item, item_of, item_numbers}
 use Rattle.items.specs.Valid.{ValidItem}
 
@@ -21,9 +20,9 @@ pub record Ended (bytes : List ℕ) (place : ℕ) (e : Entry) (next : Cursor) : 
   pub begins : place < e.start
   pub last : e.start + e.len < length bytes
   pub looks : e.lookahead ≡ get_or bytes (e.start + e.len) 0
-  pub numbered : number_at bytes (e.start + e.len + 1) ≡ Value e.article next
+  pub numbered : number_at bytes (e.start + e.len + 1) ≡ Ok (e.article, next)
 
-module _ {t : ℕ} (bytes : List ℕ) (place : ℕ) {e : Entry} {next : Cursor} (few : t ≤ 32) (f : entry_at t bytes place ≡ Found e next) where
+module _ {t : ℕ} (bytes : List ℕ) (place : ℕ) {e : Entry} {next : Cursor} (few : t ≤ 32) (f : entry_at t bytes place ≡ Ok (e, next)) where
   pub entry-ended : Ended bytes place e next
   entry-ended =
       let p = entry-parts t bytes place e next f in
@@ -59,14 +58,14 @@ module _ {t : ℕ} {x : Item} (few : t ≤ 32) (v : ValidItem t x) where
   item-bytes = rw (bytes-append, symbols-bytes, written_one x.lookahead (omega (arith, v.below)), append_assoc, append-nil)
 
 -- a number is written where it was read
-number-bytes : (bytes : List ℕ) (at v : ℕ) (next : Cursor) → Bytes bytes → number_at bytes at ≡ Value v next → drop at bytes ≡ written v ++ drop next.at bytes
+number-bytes : (bytes : List ℕ) (at v : ℕ) (next : Cursor) → Bytes bytes → number_at bytes at ≡ Ok (v, next) → drop at bytes ≡ written v ++ drop next.at bytes
 unfolding number_at
 number-bytes bytes at v next b e =
     let s = first-stands at (drop at bytes) v next.at (λ i. rw get_or-drop (b (at + i))) e in
     s.whole ∙ ap (λ (l : List ℕ). written v ++ l) (sym (rw (← s.after) at (past bytes at (written v) s.rest s.whole)))
 
 -- those that it was read from
-pub entry-bytes : {t : ℕ} (bytes : List ℕ) (place : ℕ) {e : Entry} {next : Cursor} → Bytes bytes → t ≤ 32 → entry_at t bytes place ≡ Found e next
+pub entry-bytes : {t : ℕ} (bytes : List ℕ) (place : ℕ) {e : Entry} {next : Cursor} → Bytes bytes → t ≤ 32 → entry_at t bytes place ≡ Ok (e, next)
     → drop place bytes ≡ bytes_of (item_numbers (item_of bytes e)) ++ drop next.at bytes
 entry-bytes {t} bytes place {e} {next} b few f =
     let p = entry-parts t bytes place e next f in
@@ -83,7 +82,7 @@ entry-bytes {t} bytes place {e} {next} b few f =
 -- an entry, which says what was written
 pub record ItemRead (t : ℕ) (bytes : List ℕ) (at : ℕ) (x : Item) : Type 0 where
   pub entry : Entry
-  pub found : entry_at t bytes at ≡ Found entry (record { at = at + length (bytes_of (item_numbers x)) })
+  pub found : entry_at t bytes at ≡ Ok (entry, (record { at = at + length (bytes_of (item_numbers x)) }))
   pub says : item_of bytes entry ≡ x
 
 pub item-read : {t : ℕ} {x : Item} (bytes : List ℕ) (at : ℕ) (rest : List ℕ) → t ≤ 32 → ValidItem t x → drop at bytes ≡ bytes_of (item_numbers x) ++ rest
@@ -104,12 +103,12 @@ item-read {t} {x} bytes at rest few v e =
     let look : number_at bytes (start + len) ≡ value x.lookahead (start + len + 1) =
     rw one at (number-written bytes (start + len) x.lookahead more (omega (arith, v.below)) (rw one e₃)) in
     let article = number-written bytes (start + len + 1) x.article rest (omega (arith, v.article)) e₄ in
-    let low : length_fault len ≡ 0 = outside-none 0 1001 8 len (omega arith) (omega (arith, v.short)) in
-    let below : lookahead_fault t x.lookahead ≡ 0 = outside-none 0 t 11 x.lookahead (omega arith) v.below in
+    let low : length_fault len ≡ None = outside-none 0 1001 Cause.Length len (omega arith) (omega (arith, v.short)) in
+    let below : lookahead_fault t x.lookahead ≡ None = outside-none 0 t Cause.Lookahead x.lookahead (omega arith) v.below in
     let end : at + length (bytes_of (item_numbers x)) ≡ start + len + 1 + length (written x.article) =
     rw (item-bytes few v, length-append, length-append) (omega arith) in
     record {
       entry = record { start = start; len = len; lookahead = x.lookahead; article = x.article };
-      found = rw (end, n, eq-eqb (length_fault len) 0 low, symbols, look, eq-eqb (lookahead_fault t x.lookahead) 0 below, article);
+      found = rw (end, n, low, symbols, look, below, article);
       says = rw (e₂, take-append_seam);
     }

@@ -1,18 +1,18 @@
 -- Laws of how a list is written: reading and writing undo each other, and what is written are bytes. Assumes nothing.
 use mathlib.Core.List.{List, [], ◌∷◌, ◌++◌, append_assoc, append-nil}
-use Rattle.std.specs.Prelude.{◌≡◌, take}
+use Rattle.std.specs.Prelude.{Result, None, Ok, Err, ◌≡◌, take}
 use Rattle.std.proofs.Math.Path.{refl, ap}
-use Rattle.std.proofs.Common.{sym, ◌∙◌, add-zero, arith, le-ltb, eq-eqb, length-append, drop_of_length-le, take_at}
+use Rattle.std.proofs.Common.{sym, ◌∙◌, add-zero, arith, le-ltb, length-append, drop_of_length-le, take_at}
 use Prim.Native.Nat.{ℕ, zero, suc, ◌+◌, ◌≤◌, ◌<◌}
 use Rattle.std.proofs.Math.Decide.{dec_lt}
 use Rattle.std.proofs.Math.ListN.{length, drop}
 use Rattle.std.proofs.lemmas.List.{length-map}
 use Rattle.number.specs.TestLaws.{tests}
-use Rattle.number.specs.Number.{number_at, written, value}
+use Rattle.number.specs.Number.{Number, number_at, written, value}
 use Rattle.number.specs.NumberLaws.{Bytes, NumberStands, first-stands, number-onward}
 use Rattle.number.specs.declared.Cursor.{Cursor}
-use Rattle.number.specs.declared.Number.{Number}
-use Rattle.number.specs.declared.Number.TheVariants.{Value, Refused}
+use Rattle.number.specs.declared.cause.Cause.{Cause}
+use Rattle.number.specs.declared.cause.Refusal.{Refusal}
 use Rattle.book.specs.Book.{admitted, bytes_of}
 use Rattle.book.specs.BytesLaws.{bytes-append}
 use Rattle.book.specs.RoundTripLaws.{past, number-written, numbers-bytes}
@@ -23,9 +23,7 @@ use Rattle.lists.specs.ListLaws.{end_of, list_closing}
 use Rattle.lists.proofs.ListLaws.{entries-front, listing-on, refused-not-entries}
 use Rattle.lists.proofs.ReadingLaws.{list-ahead}
 use Rattle.lists.specs.declared.Entry.{Entry}
-use Rattle.lists.specs.declared.Listing.TheVariants.{Entries, Refused as ListingRefused}
 use Rattle.lists.specs.declared.Rest.{Rest}
-use Rattle.lists.specs.declared.Step.TheVariants.{Found}
 use Rattle.items.specs.EntryLaws.{entry-valid, entry-bytes, item-read}
 use Rattle.items.specs.Items.{Item, item_of, items, item_numbers, numbers_of, list_bytes}
 use Rattle.items.specs.Valid.{AllValid, none, more}
@@ -52,14 +50,14 @@ numbers-append (x ∷ xs) ys =
     ∙ ap (λ (l : List ℕ). l ++ bytes_of (numbers_of ys)) (sym (numbers_more x xs))
 
 -- ---- the count of a list that was read
-closing-count : (first count end : ℕ) (n : Number) (rest : Rest) → list_closing first count end n ≡ Entries rest → count ≡ rest.left
-closing-count first count end (Refused r) rest e = absurd (let z : ◌≡◌ {A = ℕ} 0 1 = cc in omega arith)
-closing-count first count end (Value v next) rest e = go (dec_lt next.at end)
+closing-count : (first count end : ℕ) (n : Result ℕ Refusal) (rest : Rest) → list_closing first count end n ≡ Ok rest → count ≡ rest.left
+closing-count first count end (Err r) rest e = absurd (let z : ◌≡◌ {A = ℕ} 0 1 = cc in omega arith)
+closing-count first count end (Ok at) rest e = go (dec_lt at end)
   where
-    go : Dec (next.at < end) → count ≡ rest.left
-    go (yes h) = absurd (let f : ListingRefused _ ≡ Entries rest = simp tests at e in let z : ◌≡◌ {A = ℕ} 0 1 = cc in omega arith)
+    go : Dec (at < end) → count ≡ rest.left
+    go (yes h) = absurd (let f : Err _ ≡ Ok rest = simp tests at e in let z : ◌≡◌ {A = ℕ} 0 1 = cc in omega arith)
     go (no h) =
-        let f : Entries (record { at = first; left = count }) ≡ Entries rest = rw (le-ltb next.at end (omega arith)) at e in
+        let f : Ok (record { at = first; left = count }) ≡ Ok rest = rw (le-ltb at end (omega arith)) at e in
         let r : ◌≡◌ {A = Rest} (record { at = first; left = count }) rest = cc in
         ap (λ (s : Rest). s.left) r
 
@@ -74,10 +72,10 @@ module _ (t : ℕ) (bytes : List ℕ) {es : List Entry} {end : ℕ} (e : list_of
   list_counted = go (admitted count_fault 0 (number_at bytes 0)) refl
     where
       go : (n : Number) → admitted count_fault 0 (number_at bytes 0) ≡ n → Counted bytes es
-      go (Refused r) f = absurd (refused-not-entries r es end (rw f at e))
-      go (Value n next) f =
+      go (Err r) f = absurd (refused-not-entries r es end (rw f at e))
+      go (Ok (n, next)) f =
           let (found, clean) = admitted-found count_fault 0 (number_at bytes 0) n next f in
-          let low = inside 0 129 8 n clean in
+          let low = inside 0 129 Cause.Entries n clean in
           let count : n ≡ length es =
           closing-count next.at n (length bytes) (end_of (entries_at t bytes n next.at)) (record { at = after (number_at bytes 0); left = length es })
           (listing-on t bytes n next f ∙ ap (listing bytes) e) in
@@ -146,7 +144,7 @@ list_written t bytes {es} {end} b few e =
     sym (s.whole ∙ rw (numbers, length-map))
 
 -- ---- reading what was written
-entries-joined : (t : ℕ) (bytes : List ℕ) (k at : ℕ) (e : Entry) (next : Cursor) (es : List Entry) (end : ℕ) → entry_at t bytes at ≡ Found e next
+entries-joined : (t : ℕ) (bytes : List ℕ) (k at : ℕ) (e : Entry) (next : Cursor) (es : List Entry) (end : ℕ) → entry_at t bytes at ≡ Ok (e, next)
     → entries_at t bytes k next.at ≡ entries es end → entries_at t bytes (suc k) at ≡ entries (e ∷ es) end
 unfolding entries_at
 entries-joined t bytes k at e next es end f g = rw (f, g)
@@ -172,9 +170,9 @@ unfolding list_of
 written_listed {t} {xs} few v h =
     let bytes : List ℕ = list_bytes xs in
     let n = number-written bytes 0 (length xs) (bytes_of (numbers_of xs)) (omega arith) refl in
-    let clean : count_fault (length xs) ≡ 0 = outside-none 0 129 9 (length xs) (omega arith) (omega arith) in
+    let clean : count_fault (length xs) ≡ None = outside-none 0 129 Cause.Entries (length xs) (omega arith) (omega arith) in
     let first = 0 + length (written (length xs)) in
     let (es, found, says) = entries-read bytes first few v (past bytes 0 (written (length xs)) (bytes_of (numbers_of xs)) refl) in
     let end = first + length (bytes_of (numbers_of xs)) in
     let whole : length bytes ≤ end = omega (arith, length-append (written (length xs)) (bytes_of (numbers_of xs))) in
-    (es, end, rw (n, eq-eqb (count_fault (length xs)) 0 clean, found, le-ltb end (length bytes) whole), says)
+    (es, end, rw (n, clean, found, le-ltb end (length bytes) whole), says)

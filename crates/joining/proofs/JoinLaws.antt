@@ -1,5 +1,6 @@
 -- Laws of two lists that are joined: the bytes that are put are those of the joined list. Assumes nothing.
-use Rattle.std.specs.Prelude.{Bool, true, false, cond, ◌≡◌, ltb, length, get_or}
+use Rattle.number.specs.declared.cause.Cause.{Cause}
+use Rattle.std.specs.Prelude.{Bool, true, false, cond, ◌≡◌, ltb, length, get_or, Result, Ok, Err}
 use mathlib.Core.List.{List, [], ◌∷◌, ◌++◌}
 use Rattle.std.proofs.Math.Path.{refl}
 use Rattle.std.proofs.Common.{sym, ◌∙◌, arith}
@@ -7,28 +8,24 @@ use Prim.Native.Nat.{ℕ, zero, suc, ◌+◌, ◌≤◌, ◌<◌}
 use Rattle.std.proofs.Math.Nat.{zero-add}
 use Rattle.std.proofs.Math.ListN.{length-append}
 use Rattle.std.proofs.lemmas.List.Edits.{sets}
-use Rattle.number.specs.Number.{written}
+use Rattle.number.specs.Number.{refused_at, written}
 use Rattle.number.specs.NumberLaws.{Bytes}
 use Rattle.number.specs.declared.Cursor.{Cursor}
-use Rattle.number.specs.declared.Refusal.{Refusal}
+use Rattle.number.specs.declared.cause.Refusal.{Refusal}
 use Rattle.book.specs.Book.{bytes_of, of_cells, checked}
 use Rattle.book.specs.Tables.{Tables, tables_of}
 use Rattle.book.specs.TablesLaws.{Holds}
-use Rattle.book.specs.declared.Checked.TheVariants.{Valid, Refused as CheckedRefused}
 use Rattle.book.specs.declared.Sizes.{Sizes}
 use Rattle.layers.specs.CrossingLaws.{states-are}
 use Rattle.lists.specs.Entry.{sentence, entry_at}
 use Rattle.lists.proofs.EntryLaws.{part_length, entry-parts, entry-spelled}
 use Rattle.lists.specs.List.{list_of, listing}
 use Rattle.lists.specs.declared.Entry.{Entry}
-use Rattle.lists.specs.declared.Listing.TheVariants.{Refused as ListingRefused}
 use Rattle.lists.specs.declared.Rest.{Rest}
-use Rattle.lists.specs.declared.Step.TheVariants.{Found}
 use Rattle.items.specs.Items.{Item, item_of, items, numbers_of}
 use Rattle.course.specs.AcceptedLaws.{ListAccepted, list-refused, accepted-ahead}
 use Rattle.course.specs.Course.{fault, course, in_state}
 use Rattle.course.specs.Turns.{PlaceOf, none, one, Places, EntriesPassed, Clean}
-use Rattle.course.specs.declared.Faults.TheVariants.{None, First as FirstFault}
 use Rattle.course.specs.declared.Judgement.{Judgement}
 use Rattle.sorting.specs.FittedLaws.{fitted_short, fitted-put}
 use Rattle.sorting.specs.PutLaws.{put_both}
@@ -40,8 +37,8 @@ use Rattle.joining.specs.Joining.{shorter, joined, joined_bytes, joined_in, join
 use Rattle.pieces.specs.Pieces.{symbols_at, is_shorter, piece_at, entry_count, piece_of, pieces_to, count_to}
 use Rattle.pieces.specs.PiecesLaws.{symbols-read, second_none, first-none, both-compared, second-taken, first_taken, count-first, count-second, count_none}
 use Rattle.joining.specs.JoinLaws.{BothAccepted}
-use Rattle.joining.specs.declared.Joined.{Joined}
-use Rattle.joining.specs.declared.Joined.TheVariants.{Count, Fault, Refused, ListRefused}
+use Rattle.joining.specs.declared.Unjoined.{Unjoined}
+use Rattle.joining.specs.declared.Unjoined.TheVariants.{Fault, Refused, ListRefused}
 use Rattle.joining.specs.declared.Which.TheVariants.{First, Second}
 
 -- ---- one state
@@ -50,7 +47,7 @@ record Taken (first : List ℕ) (p : ℕ) (second : List ℕ) (q : ℕ) (xs : Li
   pub bytes : piece_at first p second q ≡ bytes_of (numbers_of xs)
   pub count : entry_count p q ≡ length xs
 
-entry-symbols : {t : ℕ} (bytes : List ℕ) (place : ℕ) {e : Entry} {next : Cursor} → t ≤ 32 → entry_at t bytes place ≡ Found e next
+entry-symbols : {t : ℕ} (bytes : List ℕ) (place : ℕ) {e : Entry} {next : Cursor} → t ≤ 32 → entry_at t bytes place ≡ Ok (e, next)
     → symbols_at bytes place ≡ length (sentence bytes e)
 entry-symbols {t} bytes place {e} {next} few f =
     let s = entry-spelled t bytes place e next (omega arith) f in
@@ -95,29 +92,29 @@ module _ {t : ℕ} (B : Tables) (first places second others : List ℕ) (xs ys :
 
 -- ---- a list that is put: its count, then its entries, in a room of which so much is left by these
 module _ (count pieces lent : List ℕ) where
-  pub pieces-short : length lent < length pieces → (Refused (record { number = 12; place = 0 }), lent) ≡ fitted Count Refused (count ++ pieces) lent
-  pieces-short h = fitted_short Count Refused (count ++ pieces) lent (omega (arith, length-append count pieces))
+  pub pieces-short : length lent < length pieces → (Err (Refused (refused_at Cause.Output 0)), lent) ≡ fitted Refused (count ++ pieces) lent
+  pieces-short h = fitted_short Refused (count ++ pieces) lent (omega (arith, length-append count pieces))
 
   module _ (left : ℕ) (e : left + length pieces ≡ length lent) where
-    pub count-short : left < length count → (Refused (record { number = 12; place = 0 }), lent) ≡ fitted Count Refused (count ++ pieces) lent
-    count-short h = fitted_short Count Refused (count ++ pieces) lent (omega (arith, length-append count pieces))
+    pub count-short : left < length count → (Err (Refused (refused_at Cause.Output 0)), lent) ≡ fitted Refused (count ++ pieces) lent
+    count-short h = fitted_short Refused (count ++ pieces) lent (omega (arith, length-append count pieces))
 
     pub list_put : (start end : ℕ) (between out : List ℕ) → length count ≤ left → (start ≡ 0 + length count) × (between ≡ sets lent 0 count)
-        → (end ≡ start + length pieces) × (out ≡ sets between start pieces) → (Count end, out) ≡ fitted Count Refused (count ++ pieces) lent
+        → (end ≡ start + length pieces) × (out ≡ sets between start pieces) → (Ok end, out) ≡ fitted Refused (count ++ pieces) lent
     list_put start end between out h (f, g) (i, j) =
         let both = length-append count pieces in
         let room : length (count ++ pieces) ≤ length lent = omega (arith, both) in
-        fitted-put Count Refused (count ++ pieces) lent (omega (arith, both)) (omega (arith, both)) (put_both count pieces lent between out start (omega arith) room g j)
+        fitted-put Refused (count ++ pieces) lent (omega (arith, both)) (omega (arith, both)) (put_both count pieces lent between out start (omega arith) room g j)
 
 module _ (t : ℕ) (B : Tables) {first second : List ℕ} {rest other : Rest} (lent : List ℕ) (a : BothAccepted t first rest second other) where
-  pub first-fault : (j : Judgement) → EntriesPassed true B t first rest.at rest.left [] (FirstFault j)
-      → (Fault First j, lent) ≡ joined_in B first (list_of t first) second (list_of t second) lent
+  pub first-fault : (j : Judgement) → EntriesPassed true B t first rest.at rest.left [] (Err j)
+      → (Err (Fault First j), lent) ≡ joined_in B first (list_of t first) second (list_of t second) lent
   first-fault j f =
       let g : course true B 0 [] (items first a.one.es) ≡ fault j = rw (accepted-ahead t a.one) at f in
       rw (a.one.list, a.two.list, g)
 
-  pub second-fault : (places : List ℕ) (j : Judgement) → EntriesPassed true B t first rest.at rest.left places None
-      → EntriesPassed true B t second other.at other.left [] (FirstFault j) → (Fault Second j, lent) ≡ joined_in B first (list_of t first) second (list_of t second) lent
+  pub second-fault : (places : List ℕ) (j : Judgement) → EntriesPassed true B t first rest.at rest.left places (Ok tt)
+      → EntriesPassed true B t second other.at other.left [] (Err j) → (Err (Fault Second j), lent) ≡ joined_in B first (list_of t first) second (list_of t second) lent
   second-fault places j c f =
       let xs : List Item = items first a.one.es in
       let p : Clean B t first xs (course true B 0 [] xs) places = rw (accepted-ahead t a.one) at c in
@@ -127,9 +124,9 @@ module _ (t : ℕ) (B : Tables) {first second : List ℕ} {rest other : Rest} (l
 -- .. and have no fault: what is put is the joined list
 pub accepted-joined : {d : Sizes} {cells first second : List ℕ} {rest other : Rest} {places others : List ℕ} → Holds d cells → Bytes first → Bytes second
     → BothAccepted d.t first rest second other
-    → EntriesPassed true (tables_of cells) d.t first rest.at rest.left places None
-    → EntriesPassed true (tables_of cells) d.t second other.at other.left others None
-    → (lent : List ℕ) (o : Joined × List ℕ) → o ≡ fitted Count Refused (written (count_to places others d.s) ++ pieces_to first places second others d.s) lent
+    → EntriesPassed true (tables_of cells) d.t first rest.at rest.left places (Ok tt)
+    → EntriesPassed true (tables_of cells) d.t second other.at other.left others (Ok tt)
+    → (lent : List ℕ) (o : Result ℕ Unjoined × List ℕ) → o ≡ fitted Refused (written (count_to places others d.s) ++ pieces_to first places second others d.s) lent
     → o ≡ joined_in (tables_of cells) first (list_of d.t first) second (list_of d.t second) lent
 accepted-joined {d} {cells} {first} {second} {places} {others} h b c a e f lent o g =
     let B : Tables = tables_of cells in
@@ -146,19 +143,19 @@ accepted-joined {d} {cells} {first} {second} {places} {others} h b c a e f lent 
 
 -- ---- what stops it before that, and what does not
 module _ (t : ℕ) (B : Tables) (first second lent : List ℕ) where
-  pub first-unlisted : (r : Refusal) → listing first (list_of t first) ≡ ListingRefused r → (ListRefused First r, lent) ≡ joined_in B first (list_of t first) second (list_of t second) lent
+  pub first-unlisted : (r : Refusal) → listing first (list_of t first) ≡ Err r → (Err (ListRefused First r), lent) ≡ joined_in B first (list_of t first) second (list_of t second) lent
   first-unlisted r e = rw (list-refused first (list_of t first) e)
 
-  pub second-unlisted : {rest : Rest} (r : Refusal) → ListAccepted first (list_of t first) rest → listing second (list_of t second) ≡ ListingRefused r
-      → (ListRefused Second r, lent) ≡ joined_in B first (list_of t first) second (list_of t second) lent
+  pub second-unlisted : {rest : Rest} (r : Refusal) → ListAccepted first (list_of t first) rest → listing second (list_of t second) ≡ Err r
+      → (Err (ListRefused Second r), lent) ≡ joined_in B first (list_of t first) second (list_of t second) lent
   second-unlisted r l e = rw (l.list, list-refused second (list_of t second) e)
 
 module _ (cells first second lent : List ℕ) where
-  pub joins-unbooked : (r : Refusal) → checked (of_cells cells) ≡ CheckedRefused r → (Refused r, lent) ≡ joins cells first second lent
+  pub joins-unbooked : (r : Refusal) → checked (of_cells cells) ≡ Err r → (Err (Refused r), lent) ≡ joins cells first second lent
   unfolding joins
   joins-unbooked r e = rw e
 
-  pub joins-booked : (d : Sizes) → checked (of_cells cells) ≡ Valid d
+  pub joins-booked : (d : Sizes) → checked (of_cells cells) ≡ Ok d
       → joins cells first second lent ≡ joined_in (tables_of cells) first (list_of d.t first) second (list_of d.t second) lent
   unfolding joins
   joins-booked d e = rw e

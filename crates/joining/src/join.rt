@@ -1,35 +1,25 @@
 // Two lists without a fault, written as one.
-ghost use Rattle.std.specs.Prelude.{true, [], ◌++◌, ◌≡◌, ◌≤◌, length};
+ghost use Rattle.std.specs.Prelude.{true, Ok, [], ◌++◌, ◌≡◌, ◌≤◌, length};
 ghost use Rattle.number.specs.Number.{written};
 ghost use Rattle.book.specs.Tables.{tables_of};
 ghost use Rattle.book.specs.TablesLaws.{Accepted, Holds};
 ghost use Rattle.lists.specs.List.{list_of};
 ghost use Rattle.course.specs.AcceptedLaws.{ListAccepted};
 ghost use Rattle.course.specs.Turns.{EntriesPassed};
-ghost use Rattle.course.specs.declared.Faults.TheVariants.{None};
 ghost use Rattle.sorting.specs.Sorting.{fitted};
 ghost use Rattle.joining.specs.JoinLaws.{BothAccepted};
 ghost use Rattle.joining.specs.Joining.{joined_in, joins};
+ghost use Rattle.joining.specs.declared.Unjoined.TheVariants.{Refused};
 ghost use Rattle.pieces.specs.Pieces.{count_to, pieces_to};
-ghost use Rattle.joining.specs.declared.Joined.TheVariants.{Count, Refused};
 
-use crate::{Joined, Which};
-use book::{Checked, Sizes};
-use course::{Faults, judge_entries};
+use crate::{Unjoined, Which};
+use book::Sizes;
+use course::judge_entries;
 use forms::{PLAIN, plain_cells, plain_sizes};
-use lists::{Listing, Rest, check_entries};
+use lists::{Rest, check_entries};
 use machine::DEPTH;
-use number::{Refusal, width, write};
-use pieces::{Fit, measure, put_pieces};
-
-fn too_short() -> Joined
-    ensures { result ≡ Refused (record { number = 12; place = 0 }) }
-{
-    Joined::Refused(Refusal {
-        number: 12,
-        place: 0,
-    })
-}
+use number::{Cause, Refusal, width, write};
+use pieces::{measure, put_pieces};
 
 // The count, then the entries that are taken by the places of the states.
 fn put_list(
@@ -39,18 +29,18 @@ fn put_list(
     others: &[usize; 128],
     states: usize,
     out: &mut [u8],
-) -> Joined
+) -> Result<usize, Unjoined>
     requires { states ≤ 128 }
-    ensures { (result, out.new) ≡ fitted Count Refused (written (count_to places.now others.now states) ++ pieces_to first.now places.now second.now others.now states) out.old }
+    ensures { (result, out.new) ≡ fitted Refused (written (count_to places.now others.now states) ++ pieces_to first.now places.now second.now others.now states) out.old }
 {
-    let Fit::Left(left, count) = measure(first, places, second, others, states, out.len()) else {
-        return too_short();
+    let Some((left, count)) = measure(first, places, second, others, states, out.len()) else {
+        return Err(Unjoined::Refused(Refusal::at(Cause::Output, 0)));
     };
     if left < width(count as u32) {
-        return too_short();
+        return Err(Unjoined::Refused(Refusal::at(Cause::Output, 0)));
     }
     let start = write(count as u32, out, 0);
-    Joined::Count(put_pieces(first, places, second, others, states, out, start))
+    Ok(put_pieces(first, places, second, others, states, out, start))
 }
 
 // The second list after the first, which has no fault, and whose entries stand at the places.
@@ -64,15 +54,15 @@ fn join_second(
     other: Rest,
     stack: &mut [u16],
     out: &mut [u8],
-) -> Joined
+) -> Result<usize, Unjoined>
     requires holds { Holds d cells.now }
     requires both_accepted { BothAccepted d.t first.now rest second.now other }
-    requires entries_passed { EntriesPassed true (tables_of cells.now) d.t first.now rest.at rest.left places.now None }
+    requires entries_passed { EntriesPassed true (tables_of cells.now) d.t first.now rest.at rest.left places.now (Ok tt) }
     requires in_bounds { 1024 ≤ length stack.old }
     ensures { (result, out.new) ≡ joined_in (tables_of cells.now) first.now (list_of d.t first.now) second.now (list_of d.t second.now) out.old }
 {
     let mut others = [0usize; 128];
-    match judge_entries(
+    if let Err(j) = judge_entries(
         cells,
         d,
         second,
@@ -82,9 +72,9 @@ fn join_second(
         &mut others,
         stack,
     ) {
-        Faults::First(j) => Joined::Fault(Which::Second, j),
-        Faults::None => put_list(first, places, second, &others, d.s, out),
+        return Err(Unjoined::Fault(Which::Second, j));
     }
+    put_list(first, places, second, &others, d.s, out)
 }
 
 // The lists against plain cells; their entries stand from offsets on.
@@ -96,14 +86,14 @@ fn join_plain(
     second: &[u8],
     other: Rest,
     out: &mut [u8],
-) -> Joined
+) -> Result<usize, Unjoined>
     requires holds { Holds d cells.now }
     requires both_accepted { BothAccepted d.t first.now rest second.now other }
     ensures { (result, out.new) ≡ joined_in (tables_of cells.now) first.now (list_of d.t first.now) second.now (list_of d.t second.now) out.old }
 {
     let mut places = [0usize; 128];
     let mut stack = [0u16; DEPTH];
-    match judge_entries(
+    if let Err(j) = judge_entries(
         cells,
         d,
         first,
@@ -113,11 +103,11 @@ fn join_plain(
         &mut places,
         &mut stack,
     ) {
-        Faults::First(j) => Joined::Fault(Which::First, j),
-        Faults::None => join_second(
-            cells, d, first, rest, &places, second, other, &mut stack, out,
-        ),
+        return Err(Unjoined::Fault(Which::First, j));
     }
+    join_second(
+        cells, d, first, rest, &places, second, other, &mut stack, out,
+    )
 }
 
 // .. against a book of any form.
@@ -129,7 +119,7 @@ fn join_from(
     second: &[u8],
     other: Rest,
     out: &mut [u8],
-) -> Joined
+) -> Result<usize, Unjoined>
     requires accepted { Accepted d cells.now }
     requires both_accepted { BothAccepted d.t first.now rest second.now other }
     ensures { (result, out.new) ≡ joined_in (tables_of cells.now) first.now (list_of d.t first.now) second.now (list_of d.t second.now) out.old }
@@ -147,36 +137,45 @@ fn join_with(
     rest: Rest,
     second: &[u8],
     out: &mut [u8],
-) -> Joined
+) -> Result<usize, Unjoined>
     requires accepted { Accepted d cells.now }
     requires list_accepted { ListAccepted first.now (list_of d.t first.now) rest }
     ensures { (result, out.new) ≡ joined_in (tables_of cells.now) first.now (list_of d.t first.now) second.now (list_of d.t second.now) out.old }
 {
     match check_entries(second, d.t) {
-        Listing::Refused(r) => Joined::ListRefused(Which::Second, r),
-        Listing::Entries(other) => join_from(cells, d, first, rest, second, other, out),
+        Err(r) => Err(Unjoined::ListRefused(Which::Second, r)),
+        Ok(other) => join_from(cells, d, first, rest, second, other, out),
     }
 }
 
 // The lists against a book that was checked.
-fn join_against(cells: &[u16], d: Sizes, first: &[u8], second: &[u8], out: &mut [u8]) -> Joined
+fn join_against(
+    cells: &[u16],
+    d: Sizes,
+    first: &[u8],
+    second: &[u8],
+    out: &mut [u8],
+) -> Result<usize, Unjoined>
     requires { Accepted d cells.now }
     ensures { (result, out.new) ≡ joined_in (tables_of cells.now) first.now (list_of d.t first.now) second.now (list_of d.t second.now) out.old }
 {
     match check_entries(first, d.t) {
-        Listing::Refused(r) => Joined::ListRefused(Which::First, r),
-        Listing::Entries(rest) => join_with(cells, d, first, rest, second, out),
+        Err(r) => Err(Unjoined::ListRefused(Which::First, r)),
+        Ok(rest) => join_with(cells, d, first, rest, second, out),
     }
 }
 
 // Writes the list that has for each state the entry with fewer symbols, at equal length the first list's, in state order at the front of the lent
 // bytes; or tells the first list's fault, or else the second's; or refuses by the refusals of the book, of the first list, of the second, then by 12
 // if the result does not fit. It writes no byte unless it answers a count.
-pub fn join_lists(cells: &[u16], first: &[u8], second: &[u8], out: &mut [u8]) -> Joined
+pub fn join_lists(
+    cells: &[u16],
+    first: &[u8],
+    second: &[u8],
+    out: &mut [u8],
+) -> Result<usize, Unjoined>
     ensures { (result, out.new) ≡ joins cells.now first.now second.now out.old }
 {
-    match book::check(cells) {
-        Checked::Refused(r) => Joined::Refused(r),
-        Checked::Valid(d) => join_against(cells, d, first, second, out),
-    }
+    let d = book::check(cells)?;
+    join_against(cells, d, first, second, out)
 }

@@ -1,7 +1,8 @@
 -- Laws of the judgement: at most one is right. Assumes nothing.
-use Rattle.std.specs.Prelude.{true, List, [], ◌≡◌, ℕ, length, replicate}
+use Rattle.std.specs.Prelude.{Result, Ok, Err, true, List, [], ◌≡◌, ℕ, length, replicate}
 use Rattle.std.proofs.Common.{arith}
 use Rattle.number.specs.Lent.{over}
+use Rattle.number.specs.declared.cause.Refusal.{Refusal}
 use Rattle.book.specs.Book.{of_cells, checked}
 use Rattle.book.specs.Call.{admits}
 use Rattle.book.specs.CallLaws.{concludes-one}
@@ -13,7 +14,6 @@ use Rattle.work.specs.Work.{cleared}
 use Rattle.items.specs.Items.{items}
 use Rattle.course.specs.Course.{Course, course}
 use Rattle.course.specs.declared.Judgement.{Judgement}
-use Rattle.course.specs.declared.Judgement.TheVariants.{Refused}
 use Rattle.judgement.specs.CoverageLaws.{lowest-same}
 use Rattle.judgement.specs.Judgement.{uncovered, Judged, faulty, faultless, judge_refusals, JudgedIn, Judges}
 
@@ -32,12 +32,12 @@ judged-one cells bytes j k (es, end, e, x) (others, last, f, y) =
     let z : Judged (tables_of cells) (course true (tables_of cells) 0 [] (items bytes others)) j = rw same at x in
     one-judgement z y
 
-pub one_answer : (cells bytes work stack : List ℕ) (end other : Judgement × (List ℕ × List ℕ)) → Judges cells bytes work stack end
+pub one_answer : (cells bytes work stack : List ℕ) (end other : Result Judgement Refusal × (List ℕ × List ℕ)) → Judges cells bytes work stack end
     → Judges cells bytes work stack other → end ≡ other
 one_answer cells bytes work stack end other =
-    concludes-one (admits (checked (of_cells cells)) (judge_refusals (list_in cells bytes) (length work) (length stack))) Refused (work, stack)
+    concludes-one (admits (checked (of_cells cells)) (judge_refusals (list_in cells bytes) (length work) (length stack))) Err (work, stack)
     (λ d. JudgedIn cells bytes)
-    (λ d j. (j, (cleared d work, over (replicate 1024 0) stack)))
+    (λ d j. (Ok j, (cleared d work, over (replicate 1024 0) stack)))
     end
     other
     (λ d. judged-one cells bytes)

@@ -20,13 +20,10 @@ fn fails(cells: &[u16], d: Sizes, dist: &[u16; 4096], broken: &[u16; 4096], q: u
     requires q_lt_s { q < d.s }
     ensures { result ≡ state_fails cells.now dist.now broken.now d.t q }
 {
-    let t = d.t;
-    let mut z: usize = 0;
-    while z < t {
+    for z in 0..d.t {
         if pair_fails(cells, d, dist, broken, q, z) {
             return true;
         }
-        z += 1;
     }
     false
 }
@@ -60,13 +57,10 @@ fn lowest_lacking(
     requires { Holds d cells.now }
     ensures { result ≡ lowest_state (lacks_in (state_fails cells.now dist.now broken.now d.t) places.now) d.s 0 }
 {
-    let states = d.s;
-    let mut q: usize = 0;
-    while q < states {
+    for q in 0..d.s {
         if lacks(cells, d, dist, broken, places, q) {
             return Judgement::Uncovered(q as u16);
         }
-        q += 1;
     }
     Judgement::Complete
 }

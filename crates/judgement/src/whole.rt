@@ -1,21 +1,21 @@
 // A whole list: the checks, the entries in turn, then the states without one.
-ghost use Rattle.std.specs.Prelude.{true, ◌≡◌, ◌≤◌, length, drop};
+ghost use Rattle.std.specs.Prelude.{Ok, true, ◌≡◌, ◌≤◌, length, drop};
 ghost use Rattle.book.specs.Tables.{tables_of};
 ghost use Rattle.book.specs.TablesLaws.{Accepted, Holds};
 ghost use Rattle.layers.specs.Crossing.{room};
 ghost use Rattle.crossings.specs.Crossings.{Beyond};
 ghost use Rattle.lists.specs.List.{list_of, listing};
-ghost use Rattle.lists.specs.declared.Listing.TheVariants.{Entries};
 ghost use Rattle.course.specs.Turns.{EntriesStanding, course_at};
 ghost use Rattle.judgement.specs.Judgement.{Judged, Judges};
 
 use crate::admission::admit_room;
 use crate::coverage::cover;
-use book::{Checked, Sizes};
-use course::{Faults, Judgement, judge_entries};
+use book::Sizes;
+use course::{Judgement, judge_entries};
 use forms::{PLAIN, plain_cells, plain_sizes};
-use lists::{Listing, Rest, check_entries};
+use lists::{Rest, check_entries};
 use machine::DEPTH;
+use number::Refusal;
 use work::{clear, work_cells};
 
 // The judgement of the entries that stand from an offset on, against plain cells.
@@ -38,8 +38,8 @@ fn judge_plain(
 {
     let mut places = [0usize; 128];
     match judge_entries(cells, d, list, first, count, true, &mut places, stack) {
-        Faults::First(j) => j,
-        Faults::None => cover(cells, d, &places, work),
+        Err(j) => j,
+        Ok(()) => cover(cells, d, &places, work),
     }
 }
 
@@ -74,49 +74,30 @@ fn judge_list(
     rest: Rest,
     work: &mut [u16],
     stack: &mut [u16],
-) -> Judgement
+) -> Result<Judgement, Refusal>
     requires accepted { Accepted d cells.now }
-    requires list_value { listing list.now (list_of d.t list.now) ≡ Entries rest }
+    requires list_value { listing list.now (list_of d.t list.now) ≡ Ok rest }
     ensures { Judges cells.now list.now work.old stack.old (result, (work.new, stack.new)) }
 {
-    match admit_room(d, work.len(), stack.len()) {
-        Checked::Refused(r) => Judgement::Refused(r),
-        Checked::Valid(_) => {
-            let first = rest.at;
-            let count = rest.left;
-            let found = judge_from(cells, d, list, first, count, work, stack);
-            let n = work_cells(d);
-            clear(work, n);
-            clear(stack, DEPTH);
-            found
-        }
-    }
-}
-
-// The judgement against a book that was checked.
-fn judge_against(
-    cells: &[u16],
-    d: Sizes,
-    list: &[u8],
-    work: &mut [u16],
-    stack: &mut [u16],
-) -> Judgement
-    requires { Accepted d cells.now }
-    ensures { Judges cells.now list.now work.old stack.old (result, (work.new, stack.new)) }
-{
-    match check_entries(list, d.t) {
-        Listing::Refused(r) => Judgement::Refused(r),
-        Listing::Entries(rest) => judge_list(cells, d, list, rest, work, stack),
-    }
+    admit_room(d, work.len(), stack.len())?;
+    let found = judge_from(cells, d, list, rest.at, rest.left, work, stack);
+    let n = work_cells(d);
+    clear(work, n);
+    clear(stack, DEPTH);
+    Ok(found)
 }
 
 // Judges a list against the book in the cells. Leaves the first T × T × S × (N + 8) work cells and the first 1,024 stack cells zero; or
 // refuses by the refusals of `check_list`, then 13 for the work cells, then 13 for the stack cells, and changes no cell.
-pub fn judge(cells: &[u16], list: &[u8], work: &mut [u16], stack: &mut [u16]) -> Judgement
+pub fn judge(
+    cells: &[u16],
+    list: &[u8],
+    work: &mut [u16],
+    stack: &mut [u16],
+) -> Result<Judgement, Refusal>
     ensures { Judges cells.now list.now work.old stack.old (result, (work.new, stack.new)) }
 {
-    match book::check(cells) {
-        Checked::Refused(r) => Judgement::Refused(r),
-        Checked::Valid(d) => judge_against(cells, d, list, work, stack),
-    }
+    let d = book::check(cells)?;
+    let rest = check_entries(list, d.t)?;
+    judge_list(cells, d, list, rest, work, stack)
 }

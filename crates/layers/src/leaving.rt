@@ -53,10 +53,8 @@ pub fn list_terminals(
 {
     let row = layer_row(q);
     let mut n: usize = 0;
-    let mut a: usize = 0;
-    while a < t {
+    for a in 0..t {
         n = list_terminal(t, rows, bound, from, row, a, terminals, offsets, costs, n);
-        a += 1;
     }
     n
 }

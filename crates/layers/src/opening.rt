@@ -26,14 +26,9 @@ fn flag(cells: &[u16], d: Sizes, k: usize) -> u8
     requires { Holds d cells.now }
     ensures { result ≡ 0 → Unopened d (tables_of cells.now) k }
 {
-    let states = d.s;
-    let t = d.t;
     let q = k / 32;
     let a = k % 32;
-    if q >= states {
-        return 0;
-    }
-    if a >= t {
+    if q >= d.s || a >= d.t {
         return 0;
     }
     if opens(cells, d, q, a) { 1 } else { 0 }
@@ -45,10 +40,7 @@ pub fn open_rows(cells: &[u16], d: Sizes, rows: &mut [u8; 4096])
     ensures { OpenRows d (tables_of cells.now) rows.new }
 {
     *rows = [0; 4096];
-    let end = d.s * 32;
-    let mut k: usize = 0;
-    while k < end {
+    for k in 0..d.s * 32 {
         rows[k] = flag(cells, d, k);
-        k += 1;
     }
 }

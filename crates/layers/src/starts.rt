@@ -34,9 +34,7 @@ pub fn action_row(d: Sizes, q: usize) -> usize
     requires q_lt_s { q < d.s }
     ensures { result ≡ action_row d q }
 {
-    let t = d.t;
-    let p = d.p;
-    5 + 2 * p + row_start(q, t)
+    5 + 2 * d.p + row_start(q, d.t)
 }
 
 pub fn goto_row(d: Sizes, q: usize) -> usize
@@ -44,11 +42,7 @@ pub fn goto_row(d: Sizes, q: usize) -> usize
     requires q_lt_s { q < d.s }
     ensures { result ≡ goto_row d q }
 {
-    let t = d.t;
-    let n = d.n;
-    let states = d.s;
-    let p = d.p;
-    5 + 2 * p + row_start(states, t) + row_start(q, n)
+    5 + 2 * d.p + row_start(d.s, d.t) + row_start(q, d.n)
 }
 
 pub fn crossing_rows(d: Sizes, q: usize) -> usize
@@ -56,9 +50,7 @@ pub fn crossing_rows(d: Sizes, q: usize) -> usize
     requires q_lt_s { q < d.s }
     ensures { (result ≡ crossing_rows d q) × (result ≤ 4194304) }
 {
-    let t = d.t;
-    let n = d.n;
-    row_start(q, row_start(n, block(t)))
+    row_start(q, row_start(d.n, block(d.t)))
 }
 
 // Where the row of (q, x, a) begins in the crossing table.
@@ -67,7 +59,5 @@ pub fn crossing_row(d: Sizes, q: usize, x: usize, a: usize) -> usize
     requires q_lt_s { (q < d.s) × (x < d.n) × (a < d.t) }
     ensures { result ≡ crossing_row d q x a }
 {
-    let t = d.t;
-    let n = d.n;
-    ((q * n + x) * t + a) * t
+    ((q * d.n + x) * d.t + a) * d.t
 }

@@ -42,9 +42,7 @@ pub fn all_on(flags: &mut [u8; 257], s: usize)
     ensures { AllOn s flags.new }
 {
     *flags = [0; 257];
-    let mut q: usize = 0;
-    while q < s {
+    for q in 0..s {
         add_state(flags, q);
-        q += 1;
     }
 }

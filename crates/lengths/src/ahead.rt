@@ -50,12 +50,9 @@ fn by_actions(cells: &[u16], d: Sizes, m: usize, after: &[u32; 128], q: usize) -
     requires q_lt_s { q < d.s }
     ensures { Grown (λ X. (z : ℕ) → z < d.t → NoneByAction (tables_of cells.now) m after.now q z X) 0 result }
 {
-    let t = d.t;
     let mut mask: u32 = 0;
-    let mut z: usize = 0;
-    while z < t {
+    for z in 0..d.t {
         mask = by_action(cells, d, m, after, q, z, mask);
-        z += 1;
     }
     mask
 }
@@ -78,12 +75,9 @@ fn by_gotos(cells: &[u16], d: Sizes, after: &[u32; 128], q: usize, mask: u32) ->
     requires q_lt_s { q < d.s }
     ensures { Grown (λ X. (x : ℕ) → x < d.n → NoneByGoto (tables_of cells.now) after.now q x X) mask result }
 {
-    let n = d.n;
     let mut all = mask;
-    let mut x: usize = 0;
-    while x < n {
+    for x in 0..d.n {
         all = by_goto(cells, d, after, q, x, all);
-        x += 1;
     }
     all
 }
@@ -95,12 +89,9 @@ fn masks_before(cells: &[u16], d: Sizes, m: usize, after: &[u32; 128], masks: &m
     requires masks_len { length masks.old ≡ 128 }
     ensures { AheadMasks (tables_of cells.now) m d.s masks.new }
 {
-    let states = d.s;
-    let mut q: usize = 0;
-    while q < states {
+    for q in 0..d.s {
         let mask = by_actions(cells, d, m, after, q);
         masks[q] = by_gotos(cells, d, after, q, mask);
-        q += 1;
     }
 }
 
@@ -111,9 +102,7 @@ pub fn ahead(cells: &[u16], d: Sizes, masks: &mut [u32; 128])
 {
     *masks = [0; 128];
     let mut after = [0u32; 128];
-    let mut m = longest_of_all(cells, d) + 1;
-    while m > 0 {
-        m -= 1;
+    for m in (0..longest_of_all(cells, d) + 1).rev() {
         masks_before(cells, d, m, &after, masks);
         after = *masks;
     }

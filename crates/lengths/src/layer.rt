@@ -58,12 +58,9 @@ fn lower_state(
     ensures to_len { length to.new ≡ 4096 }
     ensures table_step { TableStep plain (Upto (Turn (LayerEnding plain missing (tables_of cells.now) m (value_in plain values.now flags.now)) s) d.t) (entry_in to.old) (entry_in to.new) }
 {
-    let t = d.t;
     let row = s * 32;
-    let mut z: usize = 0;
-    while z < t {
+    for z in 0..d.t {
         lower_pair(cells, d, missing, m, s, z, values[row + z], to);
-        z += 1;
     }
 }
 
@@ -82,11 +79,8 @@ fn lower_layer(
     ensures to_len { length to.new ≡ 4096 }
     ensures table_step { TableStep plain (LayerEnding plain missing (tables_of cells.now) m (value_in plain values.now flags.now)) (entry_in to.old) (entry_in to.new) }
 {
-    let count = count_on(flags);
-    let mut i: usize = 0;
-    while i < count {
+    for i in 0..count_on(flags) {
         lower_state(cells, d, missing, m, values, flags, state_on(flags, i), to);
-        i += 1;
     }
 }
 
@@ -132,14 +126,12 @@ pub fn lower_layers(
     ensures values_len { (length values.new ≡ 4096) × (length next.new ≡ 4096) × (length to.new ≡ 4096) }
     ensures table_step { TableStep plain (λ s z w. (m : ℕ) × Ending plain (tables_of cells.now) (claim_in d table.now) missing (value_in plain values.old flags.old) m s z w) (entry_in to.old) (entry_in to.new) }
 {
-    let mut m: usize = 0;
-    while m < last {
+    for m in 0..last {
         if count_on(flags) == 0 {
             return;
         }
         lower_layer(cells, d, missing, m, values, flags, to);
         longer_layer(cells, d, table, rows, values, flags, next, next_flags);
-        m += 1;
     }
     lower_layer(cells, d, missing, last, values, flags, to);
 }

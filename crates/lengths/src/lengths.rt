@@ -81,11 +81,8 @@ fn all_far_breaks(
 {
     let mut masks = [0u32; 128];
     ahead(cells, d, &mut masks);
-    let n = d.n;
-    let mut x: usize = 0;
-    while x < n {
+    for x in 0..d.n {
         far_breaks(cells, d, table, rows, dist, &masks, x, values, next, to);
-        x += 1;
     }
 }
 
@@ -106,9 +103,8 @@ fn short_breaks(
     ensures table_step { TableStep plain (ShortBreak plain (tables_of cells.now) (claim_in d table.now)) (entry_in to.old) (entry_in to.new) }
 {
     let last = last_of_all(cells, d, Missing::States);
-    let t = d.t;
     *values = [UNREACHED; 4096];
-    level(values, 0, t, 0);
+    level(values, 0, d.t, 0);
     let mut flags = [0u8; 257];
     all_on(&mut flags, 1);
     let mut next_flags = [0u8; 257];

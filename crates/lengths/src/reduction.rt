@@ -50,17 +50,13 @@ fn last(cells: &[u16], d: Sizes, missing: Missing, p: usize) -> usize
     let len = production_length(cells, d, p) as usize;
     match missing {
         Missing::Goto(x) => {
-            if left_side(cells, d, p) as usize != x {
-                return 0;
+            if left_side(cells, d, p) as usize == x {
+                len
+            } else {
+                0
             }
-            len
         }
-        Missing::States => {
-            if len == 0 {
-                return 0;
-            }
-            len - 1
-        }
+        Missing::States => len.saturating_sub(1),
     }
 }
 
@@ -69,12 +65,9 @@ pub fn last_of_all(cells: &[u16], d: Sizes, missing: Missing) -> usize
     requires { Holds d cells.now }
     ensures { LastFailing missing (tables_of cells.now) d.p result }
 {
-    let n = d.p;
     let mut r: usize = 0;
-    let mut p: usize = 0;
-    while p < n {
+    for p in 0..d.p {
         r = most(r, last(cells, d, missing, p));
-        p += 1;
     }
     r
 }

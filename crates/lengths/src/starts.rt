@@ -17,12 +17,10 @@ fn reached(dist: &[u16; 4096], t: usize, q: usize) -> bool
     ensures { result ≡ false → (a : ℕ) → a < t → unreached plain ≤ entry_in dist.now q a }
 {
     let row = q * 32;
-    let mut a: usize = 0;
-    while a < t {
+    for a in 0..t {
         if dist[row + a] < UNREACHED {
             return true;
         }
-        a += 1;
     }
     false
 }
@@ -48,8 +46,7 @@ fn add_lacking(
     if goto_at(cells, d, q, x) != 0 {
         return;
     }
-    let t = d.t;
-    if !reached(dist, t, q) {
+    if !reached(dist, d.t, q) {
         return;
     }
     add_state(flags, q);
@@ -69,10 +66,7 @@ pub fn lacking_states(
     ensures { LackingOn plain d.t (tables_of cells.now) x dist.now masks.now d.s flags.new }
 {
     *flags = [0; 257];
-    let states = d.s;
-    let mut q: usize = 0;
-    while q < states {
+    for q in 0..d.s {
         add_lacking(cells, d, x, dist, masks, q, flags);
-        q += 1;
     }
 }

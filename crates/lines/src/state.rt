@@ -19,10 +19,7 @@ pub fn listed(cells: &[u16], d: Sizes, broken: &[u16; 4096], s: usize, z: usize)
     requires s_lt_s { (s < d.s) × (z < d.t) }
     ensures { result ≡ listed_in cells.now broken.now s z }
 {
-    if is_error(cells, d, s, z) {
-        return true;
-    }
-    has_cost(broken, s, z)
+    is_error(cells, d, s, z) || has_cost(broken, s, z)
 }
 
 // The line of (s, z), if it has one.
@@ -71,11 +68,9 @@ pub fn put_state(
     ensures state_listed { StateListed (place_in order.now) (tables_of cells.now) s out.old at out.new result }
     ensures upper_bound { result ≤ at + 131072 }
 {
-    let t = d.t;
     let mut sentence = [0u8; 1000];
     let mut next = at;
-    let mut z: usize = 0;
-    while z < t {
+    for z in 0..d.t {
         next = put_action(
             cells,
             d,
@@ -88,7 +83,6 @@ pub fn put_state(
             out,
             next,
         );
-        z += 1;
     }
     next
 }

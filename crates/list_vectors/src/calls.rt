@@ -64,27 +64,15 @@ fn sort_list(args: &[u32], cells: &[u16], list: &[u8]) {
 }
 
 fn on_list(word: &[u8], args: &[u32], cells: &[u16], list: &[u8]) -> bool {
-    if check::same(word, b"check_list") {
-        check_list(cells, list);
-        return true;
+    match word {
+        b"check_list" => check_list(cells, list),
+        b"entry" => entry(args, cells, list),
+        b"next_entry" => next_entry(args, list),
+        b"judge" => judge(args, cells, list),
+        b"sort_list" => sort_list(args, cells, list),
+        _ => return false,
     }
-    if check::same(word, b"entry") {
-        entry(args, cells, list);
-        return true;
-    }
-    if check::same(word, b"next_entry") {
-        next_entry(args, list);
-        return true;
-    }
-    if check::same(word, b"judge") {
-        judge(args, cells, list);
-        return true;
-    }
-    if check::same(word, b"sort_list") {
-        sort_list(args, cells, list);
-        return true;
-    }
-    false
+    true
 }
 
 pub fn call(word: &[u8], args: &[u32], cells: &[u16], bytes: &[u8]) {

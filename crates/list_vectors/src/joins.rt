@@ -24,15 +24,6 @@ fn join_lists(args: &[u32], cells: &[u16], bytes: &[u8]) {
     join_lists_to(cells, &bytes[..i], &bytes[i..], &mut out[..n]);
 }
 
-fn least(a: usize, b: usize) -> usize
-    ensures { result ≤ b }
-{
-    if a < b {
-        return a;
-    }
-    b
-}
-
 fn join_row(cells: &[u16], first: &[u8], second: &[u8], n: usize, row: &mut [u8])
     requires { n + 8 ≤ length row.old }
 {
@@ -47,8 +38,8 @@ fn split(cells: &[u16], first: &[u8], second: &[u8], base: usize, k: usize, n: u
 {
     let mut ours = [0u8; ROOM];
     let mut theirs = [0u8; ROOM];
-    let i = least(copy_split(first, 0, base, k, &mut ours), ROOM);
-    let j = least(copy_split(second, 1, base, k, &mut theirs), ROOM);
+    let i = copy_split(first, 0, base, k, &mut ours).min(ROOM);
+    let j = copy_split(second, 1, base, k, &mut theirs).min(ROOM);
     let mut row = [BYTE; ROW];
     join_row(cells, &ours[..i], &theirs[..j], n, &mut row);
     row
@@ -66,10 +57,8 @@ fn answers(
 )
     requires { (0 < base) × (count ≤ 1024) × (n ≤ 56) }
 {
-    let mut k: usize = 0;
-    while k < count {
+    for k in 0..count {
         store(rows, k, &split(cells, first, second, base, k, n));
-        k += 1;
     }
 }
 
@@ -77,11 +66,7 @@ fn answers(
 fn base_of(args: &[u32]) -> usize
     ensures { 0 < result }
 {
-    let b = size(args, 1);
-    if b == 0 {
-        return 1;
-    }
-    b
+    size(args, 1).max(1)
 }
 
 fn join_splits(args: &[u32], cells: &[u16], bytes: &[u8]) {
@@ -96,13 +81,10 @@ fn join_splits(args: &[u32], cells: &[u16], bytes: &[u8]) {
 
 // Answers whether the word is one of the two calls.
 pub fn in_joins(word: &[u8], args: &[u32], cells: &[u16], bytes: &[u8]) -> bool {
-    if check::same(word, b"join_lists") {
-        join_lists(args, cells, bytes);
-        return true;
+    match word {
+        b"join_lists" => join_lists(args, cells, bytes),
+        b"join_splits" => join_splits(args, cells, bytes),
+        _ => return false,
     }
-    if check::same(word, b"join_splits") {
-        join_splits(args, cells, bytes);
-        return true;
-    }
-    false
+    true
 }

@@ -31,9 +31,9 @@ fn row_of(word: &[u8], cells: &[u16], list: &[u8], n: usize) -> [u8; ROW]
     let mut row = [BYTE; ROW];
     if check::same(word, b"sort_orders") {
         sort_row(cells, list, n, &mut row);
-        return row;
+    } else {
+        judge_row(cells, list, &mut row);
     }
-    judge_row(cells, list, &mut row);
     row
 }
 
@@ -43,28 +43,20 @@ fn order(word: &[u8], cells: &[u16], list: &[u8], k: usize, n: usize) -> [u8; RO
 {
     let mut arranged = [0u8; ROOM];
     arrange(list, k, &mut arranged);
-    if ROOM < list.len() {
-        return row_of(word, cells, &arranged, n);
-    }
-    row_of(word, cells, &arranged[..list.len()], n)
+    row_of(word, cells, &arranged[..list.len().min(ROOM)], n)
 }
 
 // The answers for the first count orders.
 fn answers(word: &[u8], cells: &[u16], list: &[u8], count: usize, n: usize, rows: &mut [u8; ROWS])
     requires { (count ≤ 1024) × (n ≤ 56) }
 {
-    let mut k: usize = 0;
-    while k < count {
+    for k in 0..count {
         store(rows, k, &order(word, cells, list, k, n));
-        k += 1;
     }
 }
 
 fn is_call(word: &[u8]) -> bool {
-    if check::same(word, b"sort_orders") {
-        return true;
-    }
-    check::same(word, b"judge_orders")
+    check::same(word, b"sort_orders") || check::same(word, b"judge_orders")
 }
 
 // Answers whether the word is one of the two calls.

@@ -13,21 +13,19 @@ const MOST: usize = 549;
 // The action of state s under the terminal z.
 fn action(s: usize, z: usize) -> u8 {
     if s >= STATES - 1 {
-        return 0;
+        0
+    } else if z == 0 {
+        1
+    } else {
+        (2 * s + 4) as u8
     }
-    if z == 0 {
-        return 1;
-    }
-    (2 * s + 4) as u8
 }
 
 fn put_actions(bytes: &mut [u8; MOST])
     ensures { length bytes.new ≡ length bytes.old }
 {
-    let mut i: usize = 0;
-    while i < STATES * TERMINALS {
+    for i in 0..STATES * TERMINALS {
         bytes[5 + i] = action(i / TERMINALS, i % TERMINALS);
-        i += 1;
     }
 }
 

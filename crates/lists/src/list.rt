@@ -1,98 +1,60 @@
 // A list of sentences, checked whole, and read entry by entry.
 ghost use Rattle.std.specs.Prelude.{◌≡◌};
 ghost use Rattle.lists.specs.List.{entries_at, list_of, list_in, listing, next_at};
-ghost use Rattle.lists.specs.ListLaws.{end_of, list_closing};
+ghost use Rattle.lists.specs.ListLaws.{end_of};
 
 use crate::entries::entry_at;
 use crate::range::admit;
-use crate::{Listing, Next, Rest, Step};
-use book::Checked;
-use number::{Cursor, Number, Refusal};
+use crate::{Entry, Rest};
+use book::refuse_if;
+use number::{Cause, Cursor, Refusal};
 
 // The entries of a list; answers where they end, or the refusal.
-fn entry_row(list: &[u8], t: usize, n: usize, start: usize) -> Number
+fn entry_row(list: &[u8], t: usize, n: usize, start: usize) -> Result<usize, Refusal>
     ensures { result ≡ end_of (entries_at t list.now n start) }
 {
     let mut at = start;
-    let mut i: usize = 0;
-    while i < n {
-        match entry_at(list, at, t) {
-            Step::Refused(r) => {
-                return Number::Refused(r);
-            }
-            Step::Found(_, next) => {
-                at = next.at;
-            }
-        }
-        i += 1;
+    for _ in 0..n {
+        let (_, next) = entry_at(list, at, t)?;
+        at = next.at;
     }
-    Number::Value(0, Cursor { at })
-}
-
-// The verdict on a list whose entries ended so: nothing may follow.
-fn close(last: Number, first: usize, count: usize, end: usize) -> Listing
-    ensures { result ≡ list_closing first count end last }
-{
-    match last {
-        Number::Refused(r) => Listing::Refused(r),
-        Number::Value(_, next) => {
-            let at = next.at;
-            if at < end {
-                return Listing::Refused(Refusal {
-                    number: 6,
-                    place: at,
-                });
-            }
-            Listing::Entries(Rest {
-                at: first,
-                left: count,
-            })
-        }
-    }
+    Ok(at)
 }
 
 // Where the first entry of a list over t terminals begins and how many there are, or the refusal.
-pub fn check_entries(list: &[u8], t: usize) -> Listing
+pub fn check_entries(list: &[u8], t: usize) -> Result<Rest, Refusal>
     ensures { result ≡ listing list.now (list_of t list.now) }
 {
-    match admit(Cursor { at: 0 }.read(list), 0, 129, 9, 0) {
-        Number::Refused(r) => Listing::Refused(r),
-        Number::Value(n, next) => {
-            let count = n as usize;
-            let at = next.at;
-            close(entry_row(list, t, count, at), at, count, list.len())
-        }
-    }
+    let (n, first) = admit(Cursor { at: 0 }.read(list), 0, 129, Cause::Entries, 0)?;
+    let left = n as usize;
+    let end = entry_row(list, t, left, first.at)?;
+    refuse_if(end < list.len(), Cause::Surplus, end)?;
+    Ok(Rest { at: first.at, left })
 }
 
 // Where the first entry of the list begins and how many there are, or the refusal of the book in the cells, then that of the list.
-pub fn check_list(cells: &[u16], list: &[u8]) -> Listing
+pub fn check_list(cells: &[u16], list: &[u8]) -> Result<Rest, Refusal>
     ensures { result ≡ listing list.now (list_in cells.now list.now) }
 {
-    match book::check(cells) {
-        Checked::Refused(r) => Listing::Refused(r),
-        Checked::Valid(d) => {
-            let t = d.t;
-            check_entries(list, t)
-        }
-    }
+    let d = book::check(cells)?;
+    check_entries(list, d.t)
 }
 
 // The next entry of a checked list, of which `left` entries are left from an offset on.
-pub fn next_at(list: &[u8], at: usize, left: usize) -> Next
+pub fn next_at(list: &[u8], at: usize, left: usize) -> Option<(Entry, Rest)>
     ensures { result ≡ next_at list.now at left }
 {
     if left == 0 {
-        return Next::None;
+        return None;
     }
     match entry_at(list, at, 32) {
-        Step::Refused(_) => Next::None,
-        Step::Found(e, next) => Next::Found(
-            e,
-            Rest {
+        Err(_) => None,
+        Ok((e, next)) => {
+            let rest = Rest {
                 at: next.at,
                 left: left - 1,
-            },
-        ),
+            };
+            Some((e, rest))
+        }
     }
 }

@@ -1,31 +1,24 @@
 // Which numbers are in range where.
-ghost use Rattle.std.specs.Prelude.{◌≡◌, ◌≤◌};
-ghost use Rattle.number.specs.Number.{refusal};
+ghost use Rattle.std.specs.Prelude.{◌≡◌};
 ghost use Rattle.book.specs.Book.{admitted};
 ghost use Rattle.lists.specs.Entry.{outside};
 
-use number::{Number, Refusal};
+use number::{Cause, Cursor, Refusal};
 
-// What was found at a place, or its refusal by the number where it is below least, or at the limit or above.
-pub fn admit(found: Number, least: usize, limit: usize, number: u8, at: usize) -> Number
-    requires { 1 ≤ number }
-    ensures { result ≡ admitted (outside least limit number) at found }
+// What was found at a place, or its refusal where it is below least, or at the limit or above.
+pub fn admit(
+    found: Result<(u32, Cursor), Refusal>,
+    least: usize,
+    limit: usize,
+    cause: Cause,
+    at: usize,
+) -> Result<(u32, Cursor), Refusal>
+    ensures { result ≡ admitted (outside least limit cause) at found }
 {
-    let Number::Value(v, _) = found else {
-        return found;
-    };
+    let (v, next) = found?;
     let n = v as usize;
-    if n < least {
-        return refused(number, at);
+    if least <= n && n < limit {
+        return Ok((v, next));
     }
-    if n < limit {
-        return found;
-    }
-    refused(number, at)
-}
-
-fn refused(number: u8, place: usize) -> Number
-    ensures { result ≡ refusal number place }
-{
-    Number::Refused(Refusal { number, place })
+    Err(Refusal::at(cause, at))
 }

@@ -1,5 +1,5 @@
 -- 'The longest book has 16,679 bytes': no book has more, nor more than 8,485 cells, and one has as many. Assumes nothing.
-use Rattle.std.specs.Prelude.{Bool, List, [], ◌∷◌, ◌++◌, ◌≡◌, ltb, leb, eqb, length, get_or, take, drop, replicate}
+use Rattle.std.specs.Prelude.{Ok, Bool, List, [], ◌∷◌, ◌++◌, ◌≡◌, ltb, leb, eqb, length, get_or, take, drop, replicate}
 use Rattle.std.proofs.Math.Bool.{true, cond}
 use Rattle.std.proofs.Math.Path.{refl}
 use Rattle.std.proofs.Common.{sym, ◌∙◌, ap, zero-mul, suc-mul, mul-suc, arith, length-append, length-take, length-drop, take-append-drop, get_or-drop, get_or-take}
@@ -25,13 +25,12 @@ use Rattle.book.specs.TablesLaws.{IsBook}
 use Rattle.book.proofs.TablesLaws.{accepted-book, book-composed, composed-accepted}
 use Rattle.book.specs.WidthLaws.{production-narrow, rank-narrow, highest-wide, fits-wide, suits-wide, composed-wide}
 use Rattle.book.specs.declared.Action.TheVariants.{Reduce}
-use Rattle.book.specs.declared.Checked.TheVariants.{Valid}
 use Rattle.book.specs.declared.Part.{Part}
 use Rattle.book.specs.declared.Part.TheVariants.{Head, Productions, Ranks, Actions, Gotos}
 use Rattle.book.specs.declared.Sizes.{Sizes}
 
 -- ---- at most so many cells
-pub book-cells-most : (cells : List ℕ) (d : Sizes) → checked (of_cells cells) ≡ Valid d → length cells ≤ 8485
+pub book-cells-most : (cells : List ℕ) (d : Sizes) → checked (of_cells cells) ≡ Ok d → length cells ≤ 8485
 book-cells-most cells d e = let h = accepted-book cells d e in omega (arith, h.count, h.small.productions, h.small.terminals, ranks-few d, actions-few d h.small, gotos-few d h.small)
 
 -- ---- the widths of numbers
@@ -109,7 +108,7 @@ cells-bytes {d} {cells} h =
     (arith, head_bytes d head suits, composed-bytes d (few h.small) body rest c, h.small.productions, h.small.terminals, ranks-few d, actions-few d h.small, gotos-few d h.small))
 
 -- ---- at most so many bytes
-pub book-bytes-most : (bytes : List ℕ) (d : Sizes) → Bytes bytes → checked (of_bytes bytes) ≡ Valid d → length bytes ≤ 16679
+pub book-bytes-most : (bytes : List ℕ) (d : Sizes) → Bytes bytes → checked (of_bytes bytes) ≡ Ok d → length bytes ≤ 16679
 book-bytes-most bytes d b e =
     let (cells, next, is, sizes) = checked-valid (of_bytes bytes) d e in
     let (same, valid) = written_read bytes cells next b is in
@@ -210,18 +209,18 @@ longest-accepted =
     (omega arith)
     (omega arith)
 
-longest-valid : checked (of_cells longest) ≡ Valid largest
+longest-valid : checked (of_cells longest) ≡ Ok largest
 unfolding longest
 longest-valid = rw (longest-accepted, ← full-sizes largest)
 
-pub longest-cells : (checked (of_cells longest) ≡ Valid largest) × (length longest ≡ 8485)
+pub longest-cells : (checked (of_cells longest) ≡ Ok largest) × (length longest ≡ 8485)
 longest-cells = (longest-valid, (accepted-book longest largest longest-valid).count)
 
 ranks-bytes : length (bytes_of (firsts (λ i. i) 32)) ≡ 32
 unfolding firsts written
 ranks-bytes = refl
 
-pub longest-bytes : Bytes (bytes_of longest) × (checked (of_bytes (bytes_of longest)) ≡ Valid largest) × (length (bytes_of longest) ≡ 16679)
+pub longest-bytes : Bytes (bytes_of longest) × (checked (of_bytes (bytes_of longest)) ≡ Ok largest) × (length (bytes_of longest) ≡ 16679)
 unfolding longest full written
 longest-bytes =
     let wide = cell-wide (accepted-book longest largest longest-valid) in

@@ -1,25 +1,22 @@
 -- Laws of what is refused before a run. Assumes nothing.
-use Rattle.std.specs.Prelude.{◌≡◌, refl, Bool, true, false, cond, ◌&&◌, List, [], ◌∷◌, ℕ, zero, suc, ◌+◌, ◌≤◌, ◌<◌, ltb, leb, length, get_or, drop}
+use Rattle.number.specs.declared.cause.Cause.{Cause}
+use Rattle.std.specs.Prelude.{Result, Ok, Err, ◌≡◌, refl, Bool, true, false, cond, ◌&&◌, List, [], ◌∷◌, ℕ, zero, suc, ◌+◌, ◌≤◌, ◌<◌, ltb, leb, length, get_or, drop}
 use Rattle.std.proofs.Common.{sym, ◌∙◌, ap, ap₂, not-suc-le-zero, add-one, arith, lt-ltb, le-ltb, le-leb, ltb-false, leb-false, drop_of_length-le, drop-cons}
 use Rattle.std.proofs.Math.Bool.{and-false}
 use Rattle.std.proofs.Math.Decide.{dec_le, dec_lt}
 use Rattle.std.proofs.lemmas.Bool.{lt-leb}
-use Rattle.number.specs.declared.Refusal.{Refusal}
+use Rattle.number.specs.declared.cause.Refusal.{Refusal}
 use Rattle.book.specs.Book.{of_cells, checked}
 use Rattle.book.specs.Call.{steps, admits}
 use Rattle.book.specs.CallLaws.{call-admitted, steps_alike}
 use Rattle.book.specs.Tables.{Tables, tables_of}
 use Rattle.book.specs.TablesLaws.{Accepted}
-use Rattle.book.specs.declared.Checked.{Checked}
-use Rattle.book.specs.declared.Checked.TheVariants.{Valid, Refused as CheckedRefused}
 use Rattle.book.specs.declared.Sizes.{Sizes}
 use Rattle.forms.specs.AlikeLaws.{Alike}
 use Rattle.forms.proofs.AlikeLaws.{alike-tables, alike-sizes}
 use Rattle.machine.specs.Run.{runs, sound_prefix, run_refusals, stack_left, running}
 use Rattle.machine.specs.Stack.{RanTo}
 use Rattle.machine.specs.declared.Ending.{Ending}
-use Rattle.machine.specs.declared.Ran.{Ran}
-use Rattle.machine.specs.declared.Ran.TheVariants.{Ended, Refused}
 
 -- ---- the first symbol that is refused
 module _ (t : ℕ) (w : List ℕ) (i : ℕ) where
@@ -64,14 +61,14 @@ sound-most t (a ∷ w) = go (leb 1 a && ltb a t) (sound-most t w)
     go false h = omega arith
 
 -- ---- what is admitted
-pub record RunAdmitted (w : List ℕ) (z room : ℕ) (found : Checked) (d : Sizes) : Type 0 where
-  pub book : found ≡ Valid d
+pub record RunAdmitted (w : List ℕ) (z room : ℕ) (found : Result Sizes Refusal) (d : Sizes) : Type 0 where
+  pub book : found ≡ Ok d
   pub few : length w ≤ 1000
   pub terminals : sound_prefix d.t w ≡ length w
   pub lookahead : z < d.t
   pub enough : 1024 ≤ room
 
-pub admitted-valid : (w : List ℕ) (z room : ℕ) (found : Checked) (d : Sizes) → admits found (run_refusals w z room) ≡ Valid d → RunAdmitted w z room found d
+pub admitted-valid : (w : List ℕ) (z room : ℕ) (found : Result Sizes Refusal) (d : Sizes) → admits found (run_refusals w z room) ≡ Ok d → RunAdmitted w z room found d
 unfolding run_refusals
 admitted-valid w z room found d e =
     let (book, (few, (terminals, (lookahead, (enough, end))))) = call-admitted found (run_refusals w z room) d e in
@@ -85,22 +82,22 @@ admitted-valid w z room found d e =
 
 -- ---- the call
 module _ (cells w : List ℕ) (z : ℕ) (lent : List ℕ) where
-  pub run-refused : (r : Refusal) → admits (checked (of_cells cells)) (run_refusals w z (length lent)) ≡ CheckedRefused r → (Refused r, lent) ≡ running cells w z lent
+  pub run-refused : (r : Refusal) → admits (checked (of_cells cells)) (run_refusals w z (length lent)) ≡ Err r → (Err r, lent) ≡ running cells w z lent
   unfolding running
   run-refused r e = rw (running, e)
 
-  pub run-admitted : (d : Sizes) {r : Ending} {out : List ℕ} → admits (checked (of_cells cells)) (run_refusals w z (length lent)) ≡ Valid d
-      → RanTo (runs (tables_of cells) z w 0 (0 ∷ [])) lent r out → (Ended r, out) ≡ running cells w z lent
+  pub run-admitted : (d : Sizes) {r : Ending} {out : List ℕ} → admits (checked (of_cells cells)) (run_refusals w z (length lent)) ≡ Ok d
+      → RanTo (runs (tables_of cells) z w 0 (0 ∷ [])) lent r out → (Ok r, out) ≡ running cells w z lent
   unfolding running
   run-admitted d e (f, g) = rw (running, e, f, g)
 
 -- ---- a run does not depend on form and ranks
-abbrev told_run : Tables → List ℕ → ℕ → List ℕ → Checked → Ran × List ℕ
+abbrev told_run : Tables → List ℕ → ℕ → List ℕ → Result Sizes Refusal → Result Ending Refusal × List ℕ
 told_run B w z lent found =
-    elim found [ CheckedRefused r ↦ (Refused r, lent) | Valid x ↦ let (end, st) = runs B z w 0 (0 ∷ []) in (Ended end, stack_left st lent) ]
+    elim found [ Err r ↦ (Err r, lent) | Ok x ↦ let (end, st) = runs B z w 0 (0 ∷ []) in (Ok end, stack_left st lent) ]
 
 run-told : (d : Sizes) (cells w : List ℕ) (z : ℕ) (lent : List ℕ) → Accepted d cells
-    → running cells w z lent ≡ told_run (tables_of cells) w z lent (steps (Valid d) (run_refusals w z (length lent) d))
+    → running cells w z lent ≡ told_run (tables_of cells) w z lent (steps (Ok d) (run_refusals w z (length lent) d))
 unfolding running
 run-told d cells w z lent e = rw (running, e)
 
@@ -109,6 +106,6 @@ unfolding run_refusals
 run-alike d e cells other a w z lent =
     let refusals : run_refusals w z (length lent) d ≡ run_refusals w z (length lent) e = ap (run_refusals w z (length lent)) (alike-sizes d e cells other a) in
     run-told d cells w z lent a.first
-    ∙ ap₂ (λ (B : Tables) (more : List (Bool × ℕ × ℕ)). told_run B w z lent (steps (Valid d) more)) (alike-tables d e cells other a) refusals
+    ∙ ap₂ (λ (B : Tables) (more : List (Bool × Cause × ℕ)). told_run B w z lent (steps (Ok d) more)) (alike-tables d e cells other a) refusals
     ∙ steps_alike (run_refusals w z (length lent) e) d e (told_run (tables_of other) w z lent) refl
     ∙ sym (run-told e other w z lent a.second)

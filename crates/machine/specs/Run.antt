@@ -1,8 +1,10 @@
 -- A run: the machine under the limits, how it ends, and what the call answers and leaves. Assumes nothing.
-use Rattle.std.specs.Prelude.{Bool, true, false, cond, ◌&&◌, List, [], ◌∷◌, ◌++◌, reverse, length, get_or, drop, replicate, ℕ, zero, suc, ◌-◌, ltb, leb}
-use Rattle.book.specs.{Book.of_cells, Book.checked, Call.admits, Tables.Tables, Tables.tables_of, declared.Checked.Checked, declared.Sizes.Sizes}
+use Rattle.number.specs.declared.cause.Cause.{Cause}
+use Rattle.number.specs.declared.cause.Refusal.{Refusal}
+use Rattle.std.specs.Prelude.{Result, Ok, Err, Bool, true, false, cond, ◌&&◌, List, [], ◌∷◌, ◌++◌, reverse, length, get_or, drop, replicate, ℕ, zero, suc, ◌-◌, ltb, leb}
+use Rattle.book.specs.{Book.of_cells, Book.checked, Call.admits, Tables.Tables, Tables.tables_of, declared.Sizes.Sizes}
 use Rattle.machine.specs.Machine.{Move, accepts, fails, breaks, shifts, reduces, next}
-use Rattle.machine.specs.declared.{Stop.Stop, Ending.Ending, Ran.Ran}
+use Rattle.machine.specs.declared.{Stop.Stop, Ending.Ending}
 
 -- 'It ends .. with the top state, the symbol looked at and how many were taken in'
 abbrev pub stopped : List ℕ → ℕ → ℕ → Stop
@@ -60,12 +62,12 @@ sound_prefix T (a ∷ w) = cond (leb 1 a && ltb a T) (suc (sound_prefix T w)) 0
 
 -- the refusals after the book's, in their order: '8 a sentence has over 1,000 symbols', '7 a symbol is 0, or T or more', '11 lookahead T or
 -- more', '13 work or stack cells too few'
-unfoldable pub run_refusals : List ℕ → ℕ → ℕ → Sizes → List (Bool × ℕ × ℕ)
+unfoldable pub run_refusals : List ℕ → ℕ → ℕ → Sizes → List (Bool × Cause × ℕ)
 run_refusals w z room d =
-    (ltb 1000 (length w), 8, 0)
-    ∷ (ltb (sound_prefix d.t w) (length w), 7, sound_prefix d.t w)
-    ∷ (leb d.t z, 11, 0)
-    ∷ (ltb room 1024, 13, 0)
+    (ltb 1000 (length w), Cause.Length, 0)
+    ∷ (ltb (sound_prefix d.t w) (length w), Cause.Symbol, sound_prefix d.t w)
+    ∷ (leb d.t z, Cause.Lookahead, 0)
+    ∷ (ltb room 1024, Cause.Room, 0)
     ∷ []
 
 -- 'The first 1,024 cells then hold the stack before the step that was not taken, bottom first, then zeros'; later ones keep their values
@@ -73,7 +75,7 @@ abbrev pub stack_left : List ℕ → List ℕ → List ℕ
 stack_left st lent = reverse st ++ replicate (1024 - length st) 0 ++ drop 1024 lent
 
 -- what `run` answers and leaves in the lent stack cells. 'The stack starts as state 0 alone'; a refusal 'leaves all lent memory as it found it'
-unfoldable pub running : List ℕ → List ℕ → ℕ → List ℕ → Ran × List ℕ
+unfoldable pub running : List ℕ → List ℕ → ℕ → List ℕ → Result Ending Refusal × List ℕ
 running cells w z lent =
     elim (admits (checked (of_cells cells)) (run_refusals w z (length lent)))
-    [ Checked.Refused r ↦ (Ran.Refused r, lent) | Checked.Valid d ↦ let (e, st) = runs (tables_of cells) z w 0 (0 ∷ []) in (Ran.Ended e, stack_left st lent) ]
+    [ Err r ↦ (Err r, lent) | Ok d ↦ let (e, st) = runs (tables_of cells) z w 0 (0 ∷ []) in (Ok e, stack_left st lent) ]

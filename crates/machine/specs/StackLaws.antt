@@ -1,8 +1,9 @@
 -- Laws of a stack in lent cells: pushed, cleared above, and one look at it. Assumes nothing.
 use Rattle.std.specs.Prelude.{◌≡◌, refl, ℕ, zero, suc, ◌+◌, ◌-◌, ◌≤◌, ◌<◌, length, get_or, drop, take, set, replicate}
-use Rattle.std.proofs.Common.{sym, ◌∙◌, ap, suc-add, zero-add, add-one, arith, ltb-true, length-set, length-append, drop_of_length-le, take-append-drop, get_or-set_same, get_or-set_other, take-suc, drop-set-lt, length-take-le}
+use Rattle.std.proofs.Common.{sym, ◌∙◌, ap, suc-add, zero-add, add-one, arith, ltb-true, length-set, length-append, drop_of_length-le, take-append-drop, get_or-set_same, get_or-set_other, take-suc, drop-set-lt, length-take-le, take_all}
 use mathlib.Core.List.{List, [], ◌∷◌, ◌++◌, reverse, reverse-cons, append_assoc, append-nil}
 use Rattle.std.proofs.Math.Decide.{ℕ_discrete}
+use Rattle.std.proofs.Math.Seq.{paste}
 use Rattle.std.proofs.lemmas.List.{length-replicate, replicate-append-replicate}
 use Rattle.number.specs.Lent.{over}
 use Rattle.number.specs.LentLaws.{over-more}
@@ -101,6 +102,19 @@ module _ {lent : List ℕ} {depth : ℕ} where
             ∙ rw (k, ← replicate-append-replicate (i - depth) 1, ← append_assoc)
             (ap (λ (j : ℕ). set (over (take depth lent ++ replicate (i - depth) 0) lent) j 0) (sym e)
             ∙ over-more (take depth lent ++ replicate (i - depth) 0) (0 ∷ []) lent (rw e (omega (arith, c.room))));
+      }
+
+  -- .. or all at once
+  pub cleared-filled : (cells : List ℕ) → depth ≤ 1024 → 1024 ≤ length lent → cells ≡ paste lent depth (replicate (1024 - depth) 0) (1024 - depth) → Cleared lent cells depth 1024
+  cleared-filled cells h l e =
+      let k : depth + (1024 - depth) ≡ 1024 = omega arith in
+      record {
+        from = h;
+        most = omega arith;
+        room = l;
+        front =
+            let zeros : List ℕ = replicate (1024 - depth) 0 in
+            e ∙ rw (take_all (1024 - depth) zeros (rw length-replicate (omega arith)), cleared-length lent depth 1024 h l, k);
       }
 
   pub cleared-done : {cells : List ℕ} {i : ℕ} → Cleared lent cells depth i → 1024 ≤ i → cells ≡ stack_left (stack_of lent depth) lent

@@ -1,12 +1,12 @@
 // What is refused before a run.
 ghost use Rattle.std.specs.Prelude.{◌≡◌};
 ghost use Rattle.book.specs.Book.{of_cells, checked};
-ghost use Rattle.book.specs.Call.{steps, admits};
-ghost use Rattle.book.specs.declared.Checked.TheVariants.{Valid};
+ghost use Rattle.book.specs.Call.{admits};
 ghost use Rattle.machine.specs.Run.{sound_prefix, run_refusals};
 
 use crate::DEPTH;
-use book::{Checked, Sizes};
+use book::Sizes;
+use number::{Cause, Refusal};
 
 // How many symbols a sentence can have.
 const LONGEST: usize = 1000;
@@ -15,38 +15,31 @@ const LONGEST: usize = 1000;
 fn first_unsound(sentence: &[u8], t: usize) -> usize
     ensures { result ≡ sound_prefix t sentence.now }
 {
-    let mut i: usize = 0;
-    while i < sentence.len() {
-        let a = sentence[i] as usize;
+    for (i, a) in sentence.iter().enumerate() {
+        let a = *a as usize;
         if a == 0 {
             return i;
         }
         if a >= t {
             return i;
         }
-        i += 1;
     }
-    i
-}
-
-// The refusals of sentence, lookahead and stack cells for a book of the sizes d, which are handed back.
-fn admit_input(d: Sizes, sentence: &[u8], lookahead: u16, room: usize) -> Checked
-    ensures { result ≡ steps (Valid d) (run_refusals sentence.now lookahead room d) }
-{
-    let i = first_unsound(sentence, d.t);
-    Checked::Valid(d)
-        .unless(sentence.len() > LONGEST, 8, 0)
-        .unless(i < sentence.len(), 7, i)
-        .unless(lookahead as usize >= d.t, 11, 0)
-        .unless(room < DEPTH, 13, 0)
+    sentence.len()
 }
 
 // The sizes of the book, or the first refusal.
-pub fn admit(cells: &[u16], sentence: &[u8], lookahead: u16, room: usize) -> Checked
+pub fn admit(cells: &[u16], sentence: &[u8], lookahead: u16, room: usize) -> Result<Sizes, Refusal>
     ensures { result ≡ admits (checked (of_cells cells.now)) (run_refusals sentence.now lookahead room) }
 {
-    match book::check(cells) {
-        Checked::Refused(r) => Checked::Refused(r),
-        Checked::Valid(d) => admit_input(d, sentence, lookahead, room),
-    }
+    let d = book::check(cells)?;
+    let sound = first_unsound(sentence, d.t);
+    book::admit(
+        d,
+        &[
+            (sentence.len() > LONGEST, Cause::Length, 0),
+            (sound < sentence.len(), Cause::Symbol, sound),
+            (lookahead as usize >= d.t, Cause::Lookahead, 0),
+            (room < DEPTH, Cause::Room, 0),
+        ],
+    )
 }

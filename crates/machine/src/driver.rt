@@ -16,11 +16,7 @@ fn clear(stack: &mut [u16], depth: usize)
     requires { (depth ≤ 1024) × (1024 ≤ length stack.old) }
     ensures { stack.new ≡ stack_left (stack_of stack.old depth) stack.old }
 {
-    let mut i = depth;
-    while i < DEPTH {
-        stack[i] = 0;
-        i += 1;
-    }
+    stack[depth..DEPTH].fill(0);
 }
 
 // Reduces before a symbol of the sentence and shifts it.
@@ -79,20 +75,16 @@ pub fn drive(cells: &[u16], d: Sizes, sentence: &[u8], z: u16, stack: &mut [u16]
 {
     stack[0] = 0;
     let mut depth: usize = 1;
-    let mut taken: usize = 0;
-    while taken < sentence.len() {
-        match take_in(cells, d, stack, depth, sentence[taken] as u16, taken) {
+    for (taken, a) in sentence.iter().enumerate() {
+        match take_in(cells, d, stack, depth, *a as u16, taken) {
             Entered::Ended(e, n) => {
                 clear(stack, n);
                 return e;
             }
-            Entered::Depth(n) => {
-                depth = n;
-                taken += 1;
-            }
+            Entered::Depth(n) => depth = n,
         }
     }
-    finish(cells, d, stack, depth, z, taken)
+    finish(cells, d, stack, depth, z, sentence.len())
 }
 
 // .. on the cells of a book of any form.

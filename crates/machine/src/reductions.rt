@@ -12,7 +12,7 @@ use book::Sizes;
 // How many reductions can be done without a shift.
 pub const REDUCTIONS: usize = 4096;
 
-// Reduces until the symbol is to be shifted or the run ends.
+// Reduces until the symbol is to be shifted or the run ends. A turn with none left ends it: after a `for` there would be a case that never comes.
 pub fn reduce(
     cells: &[u16],
     d: Sizes,

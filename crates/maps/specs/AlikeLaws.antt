@@ -1,5 +1,6 @@
 -- The map and the sets of books that differ in no more than form and ranks are the same. Assumes nothing.
-use Rattle.std.specs.Prelude.{List, ◌≡◌, ℕ, ◌*◌, length}
+use Rattle.number.specs.declared.cause.Refusal.{Refusal}
+use Rattle.std.specs.Prelude.{Result, Ok, Err, List, ◌≡◌, ℕ, ◌*◌, length}
 use Rattle.std.proofs.Common.{◌∙◌}
 use Rattle.std.proofs.Math.Path.{ap}
 use Rattle.number.specs.Lent.{over}
@@ -7,8 +8,6 @@ use Rattle.book.specs.CallLaws.{concludes-alike}
 use Rattle.book.specs.Tables.{tables_of}
 use Rattle.book.specs.TablesLaws.{Accepted}
 use Rattle.book.specs.declared.Sizes.{Sizes}
-use Rattle.book.specs.declared.Written.{Written}
-use Rattle.book.specs.declared.Written.TheVariants.{Count, Refused as WrittenRefused}
 use Rattle.forms.specs.AlikeLaws.{Alike}
 use Rattle.forms.proofs.AlikeLaws.{alike-tables, alike-sizes}
 use Rattle.forms.specs.Forms.{in_form_1}
@@ -46,13 +45,13 @@ module _ (d e : Sizes) (cells other : List ℕ) (a : Alike d e cells other) wher
   map-alike m x = record { size = rw (terminals, states) at x.size; exact = λ s z hs hz. rw (tables, terminals) at (x.exact s z (rw states hs) (rw terminals hz)) }
 
   -- the map does not depend on form and ranks ..
-  pub maps-alike : (work lent : List ℕ) (end : Written × (List ℕ × List ℕ)) → Maps cells work lent end → Maps other work lent end
+  pub maps-alike : (work lent : List ℕ) (end : Result ℕ Refusal × (List ℕ × List ℕ)) → Maps cells work lent end → Maps other work lent end
   maps-alike work lent end c =
       let refusals = map-refusals (length work) (length lent) in
-      let told : (m : List ℕ) → ◌≡◌ {A = Written × (List ℕ × List ℕ)} (Count (d.s * d.t), (cleared d work, over m lent)) (Count (e.s * e.t), (cleared e work, over m lent)) =
-      λ m. ap (λ (x : Sizes). (Count (x.s * x.t), (cleared x work, over m lent))) (alike-sizes d e cells other a) in
+      let told : (m : List ℕ) → ◌≡◌ {A = Result ℕ Refusal × (List ℕ × List ℕ)} (Ok (d.s * d.t), (cleared d work, over m lent)) (Ok (e.s * e.t), (cleared e work, over m lent)) =
+      λ m. ap (λ (x : Sizes). (Ok (x.s * x.t), (cleared x work, over m lent))) (alike-sizes d e cells other a) in
       rw a.second
-      (concludes-alike (map_refusals (length work) (length lent) e) d e WrittenRefused (work, lent) (IsMap cells) (IsMap other) _ _ end map-alike told (rw (a.first, refusals) at c))
+      (concludes-alike (map_refusals (length work) (length lent) e) d e Err (work, lent) (IsMap cells) (IsMap other) _ _ end map-alike told (rw (a.first, refusals) at c))
 
   sets-alike : (masks sizes : List ℕ) → IsSets cells d masks sizes → IsSets other e masks sizes
   sets-alike masks sizes x = record {
@@ -65,10 +64,10 @@ module _ (d e : Sizes) (cells other : List ℕ) (a : Alike d e cells other) wher
   }
 
   -- .. nor do the sets
-  pub gathers-alike : (work masks sizes : List ℕ) (end : Written × (List ℕ × (List ℕ × List ℕ))) → Gathers cells work masks sizes end → Gathers other work masks sizes end
+  pub gathers-alike : (work masks sizes : List ℕ) (end : Result ℕ Refusal × (List ℕ × (List ℕ × List ℕ))) → Gathers cells work masks sizes end → Gathers other work masks sizes end
   gathers-alike work masks sizes end c =
       let refusals = sets-refusals (length work) (length masks) (length sizes) in
-      let told : (x : List ℕ × List ℕ) → ◌≡◌ {A = Written × (List ℕ × (List ℕ × List ℕ))} (Count d.s, (cleared d work, (over x.0 masks, over x.1 sizes))) (Count e.s, (cleared e work, (over x.0 masks, over x.1 sizes))) =
-      λ x. ap (λ (y : Sizes). (Count y.s, (cleared y work, (over x.0 masks, over x.1 sizes)))) (alike-sizes d e cells other a) in
+      let told : (x : List ℕ × List ℕ) → ◌≡◌ {A = Result ℕ Refusal × (List ℕ × (List ℕ × List ℕ))} (Ok d.s, (cleared d work, (over x.0 masks, over x.1 sizes))) (Ok e.s, (cleared e work, (over x.0 masks, over x.1 sizes))) =
+      λ x. ap (λ (y : Sizes). (Ok y.s, (cleared y work, (over x.0 masks, over x.1 sizes)))) (alike-sizes d e cells other a) in
       rw a.second
-      (concludes-alike (sets_refusals (length work) (length masks) (length sizes) e) d e WrittenRefused (work, (masks, sizes)) _ _ _ _ end (λ x r. sets-alike x.0 x.1 r) told (rw (a.first, refusals) at c))
+      (concludes-alike (sets_refusals (length work) (length masks) (length sizes) e) d e Err (work, (masks, sizes)) _ _ _ _ end (λ x r. sets-alike x.0 x.1 r) told (rw (a.first, refusals) at c))

@@ -1,11 +1,10 @@
 -- Laws of the sets: they are read off exact distances, and written one after the other. Assumes nothing.
-use Rattle.std.specs.Prelude.{true, List, [], ◌∷◌, ◌↔◌, ◌≡◌, ℕ, ◌+◌, ◌≤◌, ◌<◌, length, get_or}
+use Rattle.std.specs.Prelude.{Ok, true, List, [], ◌∷◌, ◌↔◌, ◌≡◌, ℕ, ◌+◌, ◌≤◌, ◌<◌, length, get_or}
 use Rattle.std.proofs.Math.Path.{refl}
 use Rattle.std.proofs.Common.{sym, ◌∙◌, ap, add-one, arith, get_or-take, get_or-drop}
 use Rattle.std.proofs.Math.ListN.{set, length-set}
 use Rattle.number.specs.Lent.{over, firsts}
 use Rattle.number.specs.LentLaws.{over-more, firsts-length, firsts-entry}
-use Rattle.book.specs.declared.Written.TheVariants.{Count}
 use Rattle.book.specs.declared.Sizes.{Sizes}
 use Rattle.book.specs.Tables.{tables_of}
 use Rattle.machine.specs.Machine.{Reaches}
@@ -59,7 +58,7 @@ mask-cut dist t q n l h k e = rw e (ap (set_of (reached_in dist t q)) (row-of-le
 -- the sets of the distances from the start
 pub sets-gathered : {d : Sizes} {cells dist masks sizes masks_left sizes_left : List ℕ} → StartTable plain d cells dist
     → masks_left ≡ over (firsts (mask_in dist d.t) d.s) masks → sizes_left ≡ over (firsts (size_in dist d.t) d.s) sizes
-    → Gathered cells d masks sizes (Count d.s) (masks_left, sizes_left)
+    → Gathered cells d masks sizes (Ok d.s) (masks_left, sizes_left)
 sets-gathered {d} {cells} {dist} x e g = record {
   thing = (firsts (mask_in dist d.t) d.s, firsts (size_in dist d.t) d.s);
   right = record {

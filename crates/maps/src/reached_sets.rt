@@ -1,5 +1,5 @@
 // The sets: for each state the reached lookaheads, and how many they are.
-ghost use Rattle.std.specs.Prelude.{◌≡◌, ◌≤◌, ◌<◌, length};
+ghost use Rattle.std.specs.Prelude.{Ok, ◌≡◌, ◌≤◌, ◌<◌, length};
 ghost use Rattle.number.specs.Lent.{over, firsts};
 ghost use Rattle.book.specs.TablesLaws.{Accepted};
 ghost use Rattle.maps.specs.Admitted.{Gathered};
@@ -9,7 +9,8 @@ ghost use Rattle.maps.specs.Reached.{mask_in, size_in};
 
 use crate::admission::admit_sets;
 use crate::start_distances::distances_in;
-use book::{Checked, Sizes, Written};
+use book::Sizes;
+use number::Refusal;
 use sets::{members, size};
 use walk::UNREACHED;
 
@@ -30,34 +31,24 @@ fn write_sets(dist: &[u16], s: usize, t: usize, masks: &mut [u32], sizes: &mut [
     ensures masks_after { masks.new ≡ over (firsts (mask_in dist.now t) s) masks.old }
     ensures sizes_after { sizes.new ≡ over (firsts (size_in dist.now t) s) sizes.old }
 {
-    let mut q: usize = 0;
-    while q < s {
+    for q in 0..s {
         let mask = mask_of(dist, t, q);
         masks[q] = mask;
         sizes[q] = size(mask);
-        q += 1;
     }
 }
 
 // The sets of an accepted book, in room that is enough.
-fn gather(
-    cells: &[u16],
-    d: Sizes,
-    work: &mut [u16],
-    masks: &mut [u32],
-    sizes: &mut [u32],
-) -> Written
+fn gather(cells: &[u16], d: Sizes, work: &mut [u16], masks: &mut [u32], sizes: &mut [u32]) -> usize
     requires accepted { Accepted d cells.now }
     requires d_in_bounds { (work_cells d ≤ length work.old) × (d.s ≤ length masks.old) × (d.s ≤ length sizes.old) }
-    ensures gathered { Gathered cells.now d masks.old sizes.old result (masks.new, sizes.new) }
+    ensures gathered { Gathered cells.now d masks.old sizes.old (Ok result) (masks.new, sizes.new) }
     ensures work_after { work.new ≡ cleared d work.old }
 {
     let mut dist = [UNREACHED; 4096];
     distances_in(cells, d, work, &mut dist);
-    let states = d.s;
-    let t = d.t;
-    write_sets(&dist, states, t, masks, sizes);
-    Written::Count(states)
+    write_sets(&dist, d.s, d.t, masks, sizes);
+    d.s
 }
 
 // The sets of a book that was checked.
@@ -67,22 +58,23 @@ fn sets_of(
     work: &mut [u16],
     masks: &mut [u32],
     sizes: &mut [u32],
-) -> Written
+) -> Result<usize, Refusal>
     requires { Accepted d cells.now }
     ensures { Gathers cells.now work.old masks.old sizes.old (result, (work.new, (masks.new, sizes.new))) }
 {
-    match admit_sets(d, work.len(), masks.len(), sizes.len()) {
-        Checked::Refused(r) => Written::Refused(r),
-        Checked::Valid(_) => gather(cells, d, work, masks, sizes),
-    }
+    admit_sets(d, work.len(), masks.len(), sizes.len())?;
+    Ok(gather(cells, d, work, masks, sizes))
 }
 
 // Writes S sets, and beside each how many lookaheads are in it; says how many sets.
-pub fn sets(cells: &[u16], work: &mut [u16], masks: &mut [u32], sizes: &mut [u32]) -> Written
+pub fn sets(
+    cells: &[u16],
+    work: &mut [u16],
+    masks: &mut [u32],
+    sizes: &mut [u32],
+) -> Result<usize, Refusal>
     ensures { Gathers cells.now work.old masks.old sizes.old (result, (work.new, (masks.new, sizes.new))) }
 {
-    match book::check(cells) {
-        Checked::Refused(r) => Written::Refused(r),
-        Checked::Valid(d) => sets_of(cells, d, work, masks, sizes),
-    }
+    let d = book::check(cells)?;
+    sets_of(cells, d, work, masks, sizes)
 }

@@ -9,11 +9,7 @@ fn copy_row(from: &[u16; 4096], start: usize, n: usize, to: &mut [u16], at: usiz
     requires { (length from.now ≡ 4096) × (start + n ≤ 4096) × (at + n ≤ length to.old) }
     ensures { to.new ≡ paste to.old at (drop start from.now) n }
 {
-    let mut i: usize = 0;
-    while i < n {
-        to[at + i] = from[start + i];
-        i += 1;
-    }
+    to[at..at + n].copy_from_slice(&from[start..start + n]);
 }
 
 // Copies the first t entries of each of the first s rows.
@@ -22,10 +18,8 @@ pub fn copy_rows(from: &[u16; 4096], s: usize, t: usize, to: &mut [u16])
     ensures { to.new ≡ over (rows from.now t s) to.old }
 {
     let mut at: usize = 0;
-    let mut q: usize = 0;
-    while q < s {
+    for q in 0..s {
         copy_row(from, q * 32, t, to, at);
         at += t;
-        q += 1;
     }
 }

@@ -1,14 +1,20 @@
 -- One number: how it is written, and what reading it at an offset gives. Assumes nothing.
-use Rattle.std.specs.Prelude.{List, [], ◌∷◌, ℕ, zero, suc, ◌+◌, ◌*◌, ◌/◌, ◌%◌, cond, ◌||◌, ltb, leb, eqb, drop}
-use Rattle.number.specs.declared.Number.{Number}
+use Rattle.std.specs.Prelude.{Result, Ok, Err, List, [], ◌∷◌, ℕ, zero, suc, ◌+◌, ◌*◌, ◌/◌, ◌%◌, cond, ◌||◌, ltb, leb, eqb, drop}
+use Rattle.number.specs.declared.{Cursor.Cursor, cause.Cause.Cause, cause.Refusal.Refusal}
 
--- 'A refusal is a number and a place'
-abbrev pub refusal : ℕ → ℕ → Number
-refusal number place = Number.Refused (record { number = number; place = place })
+-- 'A refusal is a number and a place': the cause has the number
+abbrev pub refused_at : Cause → ℕ → Refusal
+refused_at cause place = record { cause = cause; place = place }
 
--- a number with the offset after it
+-- what reading a number gives: the number with the offset after it, or the refusal
+abbrev pub Number : Type 0
+Number = Result (ℕ × Cursor) Refusal
+
 abbrev pub value : ℕ → ℕ → Number
-value n next = Number.Value n (record { at = next })
+value n next = Ok (n, record { at = next })
+
+abbrev pub refusal : Cause → ℕ → Number
+refusal cause place = Err (refused_at cause place)
 
 -- 'Each number is written in groups of seven bits, lowest group first, one group a byte, the byte's top bit set on all but the last.'
 -- 'It takes one to three bytes, the fewest possible': at most k bytes
@@ -24,18 +30,18 @@ written n = groups 3 n
 -- '2 means badly formed only'
 -- the third byte, after a and b, of the number at the offset
 unfoldable pub third : ℕ → ℕ → ℕ → List ℕ → Number
-third at a b [] = refusal 1 at
+third at a b [] = refusal Cause.Incomplete at
 third at a b (c ∷ rest) =
-    cond (eqb c 0 || leb 128 c) (refusal 2 at) (value (a % 128 + 128 * (b % 128) + 16384 * c) (at + 3))
+    cond (eqb c 0 || leb 128 c) (refusal Cause.Malformed at) (value (a % 128 + 128 * (b % 128) + 16384 * c) (at + 3))
 
 -- the second byte, after a
 unfoldable pub second : ℕ → ℕ → List ℕ → Number
-second at a [] = refusal 1 at
-second at a (b ∷ rest) = cond (eqb b 0) (refusal 2 at) (cond (ltb b 128) (value (a % 128 + 128 * b) (at + 2)) (third at a b rest))
+second at a [] = refusal Cause.Incomplete at
+second at a (b ∷ rest) = cond (eqb b 0) (refusal Cause.Malformed at) (cond (ltb b 128) (value (a % 128 + 128 * b) (at + 2)) (third at a b rest))
 
 -- the first byte
 unfoldable pub first : ℕ → List ℕ → Number
-first at [] = refusal 1 at
+first at [] = refusal Cause.Incomplete at
 first at (a ∷ rest) = cond (ltb a 128) (value a (at + 1)) (second at a rest)
 
 -- the number at an offset of the bytes, with the offset after it, or the refusal, whose place is 'the offset of the number's first byte'

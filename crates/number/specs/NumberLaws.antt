@@ -1,15 +1,14 @@
 -- Laws of one number: how many bytes it is written in, that reading and writing undo each other, and what holds of one that was read. Assumes nothing.
-use Rattle.std.specs.Prelude.{Bool, true, false, cond, ◌||◌, ◌≡◌, refl, ℕ, zero, suc, ◌+◌, ◌*◌, ◌/◌, ◌%◌, ◌≤◌, ◌<◌, ltb, leb, eqb, length, get_or, drop}
+use Rattle.std.specs.Prelude.{Ok, Err, Bool, true, false, cond, ◌||◌, ◌≡◌, refl, ℕ, zero, suc, ◌+◌, ◌*◌, ◌/◌, ◌%◌, ◌≤◌, ◌<◌, ltb, leb, eqb, length, get_or, drop}
 use Rattle.std.proofs.Common.{ap, sym, ◌∙◌, add-one, arith, length-drop, drop-cons, get_or-drop, add-zero}
 use mathlib.Core.List.{List, [], ◌∷◌, ◌++◌}
 use Rattle.std.proofs.Math.Decide.{dec_lt, ℕ_discrete}
 use borrow.Author.Tests.{lt-ltb, le-ltb, le-leb, lt-leb, ne_eqb}
 use Rattle.number.specs.TestLaws.{tests}
-use Rattle.number.specs.Number.{groups, written, number_at, first, second, third, value, refusal}
+use Rattle.number.specs.Number.{Number, groups, written, number_at, first, second, third, value, refusal}
 use Rattle.number.specs.declared.Cursor.{Cursor}
-use Rattle.number.specs.declared.Number.{Number}
-use Rattle.number.specs.declared.Number.TheVariants.{Value, Refused}
-use Rattle.number.specs.declared.Refusal.{Refusal}
+use Rattle.number.specs.declared.cause.Cause.{Cause}
+use Rattle.number.specs.declared.cause.Refusal.{Refusal}
 
 -- the byte at an offset stands first of those from there on
 pub byte_at : (bytes : List ℕ) (i : ℕ) → i < length bytes → drop i bytes ≡ get_or bytes i 0 ∷ drop (i + 1) bytes
@@ -92,10 +91,10 @@ pub record NumberStands (at : ℕ) (s : List ℕ) (n next : ℕ) : Type 0 where
 
 pub value-is : (n k m next : ℕ) → value n k ≡ value m next → (n ≡ m) × (k ≡ next)
 value-is n k m next e =
-    let c : ◌≡◌ {A = Cursor} (record { at = k }) (record { at = next }) = cc in
-    (cc, ap (λ (r : Cursor). r.at) c)
+    let p : ◌≡◌ {A = ℕ × Cursor} (n, record { at = k }) (m, record { at = next }) = cc in
+    (ap (λ (r : ℕ × Cursor). r.0) p, ap (λ (r : ℕ × Cursor). r.1.at) p)
 
-pub refused-not-value : (r : Refusal) (m next : ℕ) → Refused r ≡ value m next → ⊥
+pub refused-not-value : (r : Refusal) (m next : ℕ) → Err r ≡ value m next → ⊥
 refused-not-value r m next e = let z : ◌≡◌ {A = ℕ} 0 1 = cc in omega arith
 
 -- n is read, and its bytes are bs
@@ -152,8 +151,8 @@ first-stands at (a ∷ s) m next bytes e = go (dec_lt a 128)
 
 -- ---- a number that was read ends after the offset where it begins
 abbrev Onward : ℕ → Number → Type 0
-Onward at (Value v next) = at < next.at
-Onward at (Refused r) = Unit {0}
+Onward at (Ok (v, next)) = at < next.at
+Onward at (Err r) = Unit {0}
 
 onward-cond : (at : ℕ) (b : Bool) (x y : Number) → Onward at x → Onward at y → Onward at (cond b x y)
 onward-cond at true x y p q = p
@@ -164,26 +163,26 @@ unfolding third
 third-onward at a b [] = tt
 third-onward at a b (c ∷ s) =
     let n = a % 128 + 128 * (b % 128) + 16384 * c in
-    onward-cond at (eqb c 0 || leb 128 c) (refusal 2 at) (value n (at + 3)) tt (omega arith)
+    onward-cond at (eqb c 0 || leb 128 c) (refusal Cause.Malformed at) (value n (at + 3)) tt (omega arith)
 
 second-onward : (at a : ℕ) (s : List ℕ) → Onward at (second at a s)
 unfolding second
 second-onward at a [] = tt
 second-onward at a (b ∷ s) =
     let more = onward-cond at (ltb b 128) (value (a % 128 + 128 * b) (at + 2)) (third at a b s) (omega arith) (third-onward at a b s) in
-    onward-cond at (eqb b 0) (refusal 2 at) (cond (ltb b 128) (value (a % 128 + 128 * b) (at + 2)) (third at a b s)) tt more
+    onward-cond at (eqb b 0) (refusal Cause.Malformed at) (cond (ltb b 128) (value (a % 128 + 128 * b) (at + 2)) (third at a b s)) tt more
 
 first-onward : (at : ℕ) (s : List ℕ) → Onward at (first at s)
 unfolding first
 first-onward at [] = tt
 first-onward at (a ∷ s) = onward-cond at (ltb a 128) (value a (at + 1)) (second at a s) (omega arith) (second-onward at a s)
 
-pub number-onward : (bytes : List ℕ) (at v : ℕ) (next : Cursor) → number_at bytes at ≡ Value v next → at < next.at
+pub number-onward : (bytes : List ℕ) (at v : ℕ) (next : Cursor) → number_at bytes at ≡ Ok (v, next) → at < next.at
 unfolding number_at
 number-onward bytes at v next e = rw e at (first-onward at (drop at bytes))
 
 -- ---- whatever is read: what holds of both refusals, and of a number of one, two and three bytes
-module _ (at : ℕ) (P : Number → Type 0) (stops : P (refusal 1 at)) (badly : P (refusal 2 at)) where
+module _ (at : ℕ) (P : Number → Type 0) (stops : P (refusal Cause.Incomplete at)) (badly : P (refusal Cause.Malformed at)) where
   third-each : (a b : ℕ) (s : List ℕ) → ((v : ℕ) → 1 ≤ length s → 128 ≤ v → v < 2097152 → P (value v (at + 3))) → P (third at a b s)
   unfolding third
   third-each a b [] three = stops
@@ -223,10 +222,10 @@ pub record NumberRead (bytes : List ℕ) (at v next : ℕ) : Type 0 where
   pub small : v < 2097152
   pub one : v < 128 → (v ≡ get_or bytes at 0) × (next ≡ at + 1)
 
-pub number_read : (bytes : List ℕ) (at v : ℕ) (next : Cursor) → number_at bytes at ≡ Value v next → NumberRead bytes at v next.at
+pub number_read : (bytes : List ℕ) (at v : ℕ) (next : Cursor) → number_at bytes at ≡ Ok (v, next) → NumberRead bytes at v next.at
 unfolding number_at
 number_read bytes at v next e =
-    first-each at (λ n. n ≡ Value v next → NumberRead bytes at v next.at)
+    first-each at (λ n. n ≡ Ok (v, next) → NumberRead bytes at v next.at)
     (λ f. absurd (refused-not-value _ v next.at f))
     (λ f. absurd (refused-not-value _ v next.at f))
     (drop at bytes)

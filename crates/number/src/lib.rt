@@ -1,89 +1,74 @@
 // One number of a book or a list: read at a cursor, its width, and written at a place.
 #![tactic(auto)]
 
+mod cause;
+
 ghost use Rattle.std.specs.Prelude.{◌≡◌, ◌+◌, ◌*◌, ◌%◌, ◌≤◌, ◌<◌, length, drop};
 ghost use Rattle.std.proofs.lemmas.List.Edits.{sets};
 ghost use Rattle.number.specs.Number.{number_at, second, third, refusal, written};
 
-// A refusal: its number, and the place of its cause.
-#[derive(Clone, Copy)]
-pub struct Refusal {
-    pub number: u8,
-    pub place: usize,
-}
+pub use cause::{Cause, Refusal};
 
 // Where the next number begins.
-#[derive(Clone, Copy)]
+#[derive(Clone, Copy, Debug, PartialEq, Eq)]
 pub struct Cursor {
     pub at: usize,
 }
 
-#[derive(Clone, Copy)]
-pub enum Number {
-    Value(u32, Cursor),
-    Refused(Refusal),
-}
-
 impl Cursor {
     // The number at the cursor with the cursor after it, or refusal 1 or 2 at its first byte.
-    pub fn read(self, bytes: &[u8]) -> Number
+    pub fn read(self, bytes: &[u8]) -> Result<(u32, Cursor), Refusal>
         ensures { result ≡ number_at bytes.now self.at }
     {
         let at = self.at;
         if bytes.len() <= at {
-            return refused(1, at);
+            return Err(Refusal::at(Cause::Incomplete, at));
         }
         let a = bytes[at];
         if a < 128 {
-            return Number::Value(a as u32, Cursor { at: at + 1 });
+            return Ok((a as u32, Cursor { at: at + 1 }));
         }
         from_second(bytes, at, a)
     }
 }
 
-fn refused(number: u8, place: usize) -> Number
-    ensures { result ≡ refusal number place }
-{
-    Number::Refused(Refusal { number, place })
-}
-
 // The number at `at` whose first byte is a and has its top bit set.
-fn from_second(bytes: &[u8], at: usize, a: u8) -> Number
+fn from_second(bytes: &[u8], at: usize, a: u8) -> Result<(u32, Cursor), Refusal>
     requires { at < length bytes.now }
     ensures { result ≡ second at a (drop (at + 1) bytes.now) }
 {
     let next = at + 1;
     if bytes.len() <= next {
-        return refused(1, at);
+        return Err(Refusal::at(Cause::Incomplete, at));
     }
     let b = bytes[next];
     if b == 0 {
-        return refused(2, at);
+        return Err(Refusal::at(Cause::Malformed, at));
     }
     if b < 128 {
-        return Number::Value((a % 128) as u32 + 128 * (b as u32), Cursor { at: at + 2 });
+        return Ok(((a % 128) as u32 + 128 * (b as u32), Cursor { at: at + 2 }));
     }
     from_third(bytes, at, a, b)
 }
 
 // The number at `at` whose first two bytes are a and b and have their top bits set.
-fn from_third(bytes: &[u8], at: usize, a: u8, b: u8) -> Number
+fn from_third(bytes: &[u8], at: usize, a: u8, b: u8) -> Result<(u32, Cursor), Refusal>
     requires { at + 1 < length bytes.now }
     ensures { result ≡ third at a b (drop (at + 2) bytes.now) }
 {
     let next = at + 2;
     if bytes.len() <= next {
-        return refused(1, at);
+        return Err(Refusal::at(Cause::Incomplete, at));
     }
     let c = bytes[next];
     if c == 0 {
-        return refused(2, at);
+        return Err(Refusal::at(Cause::Malformed, at));
     }
     if c >= 128 {
-        return refused(2, at);
+        return Err(Refusal::at(Cause::Malformed, at));
     }
     let value = (a % 128) as u32 + 128 * (b % 128) as u32 + 16384 * (c as u32);
-    Number::Value(value, Cursor { at: at + 3 })
+    Ok((value, Cursor { at: at + 3 }))
 }
 
 // How many bytes a number takes.

@@ -1,17 +1,13 @@
 -- The entries that are taken of two lists, by the places of the states, as bytes. Assumes nothing.
-use Rattle.std.specs.Prelude.{Bool, true, false, cond, List, ◌≡◌, ℕ, zero, suc, ◌+◌, ◌<◌, eqb, ltb, length, get_or}
-use Rattle.number.specs.Number.{number_at}
-use Rattle.number.specs.declared.Number.{Number}
-use Rattle.number.specs.declared.Number.TheVariants.{Value, Refused}
+use Rattle.std.specs.Prelude.{Ok, Err, Bool, true, false, cond, List, ◌≡◌, ℕ, zero, suc, ◌+◌, ◌<◌, eqb, ltb, length, get_or, Option, Some, None}
+use Rattle.number.specs.Number.{Number, number_at}
 use Rattle.items.specs.SpanLaws.{span_at}
 use Rattle.sorting.specs.UpTo.{up_to}
-use Rattle.pieces.specs.declared.Fit.{Fit}
-use Rattle.pieces.specs.declared.Fit.TheVariants.{Left, Short}
 
 -- how many symbols the entry at a place has: the number that stands there
 abbrev pub count_of : Number → ℕ
-count_of (Refused r) = 0
-count_of (Value n next) = n
+count_of (Err r) = 0
+count_of (Ok (n, next)) = n
 
 unfoldable pub symbols_at : List ℕ → ℕ → ℕ
 symbols_at bytes place = count_of (number_at bytes place)
@@ -39,7 +35,7 @@ count_to places others zero = 0
 count_to places others (suc s) = count_to places others s + entry_count (get_or places s 0) (get_or others s 0)
 
 -- in so much room
-abbrev pub Measured : List ℕ → List ℕ → List ℕ → List ℕ → ℕ → ℕ → Fit → Type 0
-Measured first places second others states room (Left left count) =
+abbrev pub Measured : List ℕ → List ℕ → List ℕ → List ℕ → ℕ → ℕ → Option (ℕ × ℕ) → Type 0
+Measured first places second others states room (Some (left, count)) =
     (left + length (pieces_to first places second others states) ≡ room) × (count ≡ count_to places others states)
-Measured first places second others states room Short = room < length (pieces_to first places second others states)
+Measured first places second others states room None = room < length (pieces_to first places second others states)

@@ -1,5 +1,5 @@
 -- Laws of the entries that are taken of two lists. Assumes nothing.
-use Rattle.std.specs.Prelude.{true, false, List, ◌≡◌, ℕ, ◌+◌, ◌≤◌, ltb, get_or}
+use Rattle.std.specs.Prelude.{Ok, Err, true, false, List, ◌≡◌, ℕ, ◌+◌, ◌≤◌, ltb, get_or}
 use Rattle.std.proofs.Math.Path.{refl}
 use Rattle.std.proofs.Math.Decide.{ℕ_discrete}
 use Rattle.std.proofs.Math.Numerals.{add-one}
@@ -7,18 +7,17 @@ use Rattle.std.proofs.Common.{arith}
 use borrow.Author.Tests.{eq-eqb, ne_eqb}
 use Rattle.number.specs.Number.{number_at}
 use Rattle.number.specs.declared.Cursor.{Cursor}
-use Rattle.number.specs.declared.Number.TheVariants.{Value, Refused}
-use Rattle.number.specs.declared.Refusal.{Refusal}
+use Rattle.number.specs.declared.cause.Refusal.{Refusal}
 use Rattle.items.specs.SpanLaws.{span_at}
 use Rattle.pieces.specs.Pieces.{symbols_at, is_shorter, piece_at, entry_count, count_to}
 
 -- ---- the symbols of an entry
 module _ (bytes : List ℕ) (place : ℕ) where
-  pub symbols-none : {r : Refusal} → number_at bytes place ≡ Refused r → 0 ≡ symbols_at bytes place
+  pub symbols-none : {r : Refusal} → number_at bytes place ≡ Err r → 0 ≡ symbols_at bytes place
   unfolding symbols_at
   symbols-none e = rw e
 
-  pub symbols-read : {n : ℕ} {next : Cursor} → number_at bytes place ≡ Value n next → n ≡ symbols_at bytes place
+  pub symbols-read : {n : ℕ} {next : Cursor} → number_at bytes place ≡ Ok (n, next) → n ≡ symbols_at bytes place
   unfolding symbols_at
   symbols-read e = rw e
 

@@ -4,9 +4,8 @@ ghost use Rattle.std.proofs.lemmas.List.Edits.{sets};
 ghost use Rattle.items.specs.SpanLaws.{span_at};
 ghost use Rattle.pieces.specs.Pieces.{symbols_at, is_shorter, piece_at, entry_count, pieces_to, Measured};
 
-use crate::Fit;
-use lists::{Step, entry_at};
-use number::{Cursor, Number};
+use lists::entry_at;
+use number::Cursor;
 use sorting::put_entry;
 
 // How many symbols the entry at a place has.
@@ -14,8 +13,8 @@ fn symbols_at(list: &[u8], place: usize) -> u32
     ensures { result ≡ symbols_at list.now place }
 {
     match (Cursor { at: place }).read(list) {
-        Number::Refused(_) => 0,
-        Number::Value(n, _) => n,
+        Err(_) => 0,
+        Ok((n, _)) => n,
     }
 }
 
@@ -40,8 +39,8 @@ fn entry_size(list: &[u8], place: usize) -> usize
         return 0;
     }
     match entry_at(list, place, 32) {
-        Step::Refused(_) => 0,
-        Step::Found(_, next) => next.at - place,
+        Err(_) => 0,
+        Ok((_, next)) => next.at - place,
     }
 }
 
@@ -79,7 +78,7 @@ fn entry_count(p: usize, q: usize) -> u16
     0
 }
 
-// The entries of the first states in so much room.
+// What is left of a room, and how many entries of the first states took the rest; or none, where they have more bytes than the room.
 pub fn measure(
     first: &[u8],
     places: &[usize; 128],
@@ -87,25 +86,23 @@ pub fn measure(
     others: &[usize; 128],
     states: usize,
     room: usize,
-) -> Fit
+) -> Option<(usize, u16)>
     requires { states ≤ 128 }
     ensures { Measured first.now places.now second.now others.now states room result }
 {
     let mut left = room;
     let mut count: u16 = 0;
-    let mut s: usize = 0;
-    while s < states {
+    for s in 0..states {
         let p = places[s];
         let q = others[s];
         let n = piece_size(first, p, second, q);
         if left < n {
-            return Fit::Short;
+            return None;
         }
         left -= n;
         count += entry_count(p, q);
-        s += 1;
     }
-    Fit::Left(left, count)
+    Some((left, count))
 }
 
 // Writes the entries of the first states one after another from an offset on; answers the offset after them.
@@ -124,10 +121,8 @@ pub fn put_pieces(
     ensures out_after { out.new ≡ sets out.old start (pieces_to first.now places.now second.now others.now states) }
 {
     let mut at = start;
-    let mut s: usize = 0;
-    while s < states {
+    for s in 0..states {
         at = put_piece(first, places[s], second, others[s], out, at);
-        s += 1;
     }
     at
 }

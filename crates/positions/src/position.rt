@@ -12,10 +12,7 @@ use book::{Action, Sizes, action_at, goto_at, production_length};
 fn ends(whole: bool, len: usize, n: usize) -> bool
     ensures { result ≡ false → ¬ Ends whole len n }
 {
-    if whole {
-        return len == n;
-    }
-    n < len
+    if whole { len == n } else { n < len }
 }
 
 // The flag of state q after n + 1 transitions. No production is longer than 32.
@@ -84,13 +81,10 @@ fn actions_pass(
     requires n_bound { (n < 32) × (q < d.s) × (length positions.now ≡ 4096) }
     ensures { result ≡ false → (z : ℕ) → z < d.t → BarredAction whole (tables_of cells.now) positions.now n q z }
 {
-    let t = d.t;
-    let mut z: usize = 0;
-    while z < t {
+    for z in 0..d.t {
         if action_passes(cells, d, whole, positions, n, q, z) {
             return true;
         }
-        z += 1;
     }
     false
 }
@@ -100,13 +94,10 @@ fn gotos_pass(cells: &[u16], d: Sizes, positions: &[u8; 4096], n: usize, q: usiz
     requires n_bound { (n < 32) × (q < d.s) × (length positions.now ≡ 4096) }
     ensures { result ≡ false → (x : ℕ) → x < d.n → BarredGoto (tables_of cells.now) positions.now n q x }
 {
-    let m = d.n;
-    let mut x: usize = 0;
-    while x < m {
+    for x in 0..d.n {
         if goto_passes(cells, d, positions, n, q, x) {
             return true;
         }
-        x += 1;
     }
     false
 }
@@ -117,10 +108,7 @@ fn passes(cells: &[u16], d: Sizes, whole: bool, positions: &[u8; 4096], n: usize
     requires n_bound { (n < 32) × (q < d.s) × (length positions.now ≡ 4096) }
     ensures { result ≡ false → Barred whole (tables_of cells.now) positions.now n q }
 {
-    if actions_pass(cells, d, whole, positions, n, q) {
-        return true;
-    }
-    gotos_pass(cells, d, positions, n, q)
+    actions_pass(cells, d, whole, positions, n, q) || gotos_pass(cells, d, positions, n, q)
 }
 
 // Cell k, when all after it are done.
@@ -132,8 +120,7 @@ fn mark(cells: &[u16], d: Sizes, whole: bool, positions: &mut [u8; 4096], k: usi
 {
     let n = k / 128;
     let q = k % 128;
-    let states = d.s;
-    if q >= states {
+    if q >= d.s {
         return;
     }
     if !passes(cells, d, whole, positions, n, q) {
@@ -148,9 +135,7 @@ pub fn mark_all(cells: &[u16], d: Sizes, whole: bool, positions: &mut [u8; 4096]
     ensures { Positions whole (tables_of cells.now) 0 positions.new }
 {
     *positions = [0; 4096];
-    let mut k = longest_of_all(cells, d) * 128;
-    while k > 0 {
-        k -= 1;
+    for k in (0..longest_of_all(cells, d) * 128).rev() {
         mark(cells, d, whole, positions, k);
     }
 }

@@ -11,12 +11,9 @@ pub fn longest_of_all(cells: &[u16], d: Sizes) -> usize
     requires { Holds d cells.now }
     ensures { LongestOf (tables_of cells.now) d.p result }
 {
-    let n = d.p;
     let mut r: usize = 0;
-    let mut p: usize = 0;
-    while p < n {
+    for p in 0..d.p {
         r = most(r, production_length(cells, d, p) as usize);
-        p += 1;
     }
     r
 }

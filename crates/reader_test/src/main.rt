@@ -56,7 +56,7 @@ fn refused(cells: &[u16]) {
 
 fn main() {
     let mut cells = [0u16; 39];
-    book::read(&BRACKET, &mut cells);
+    let _ = book::read(&BRACKET, &mut cells);
     accepted(&cells);
     refused(&cells);
     cells[0] = 3;

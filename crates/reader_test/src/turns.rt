@@ -18,6 +18,6 @@ fn turn<'a>(mut r: Reader<'a>) -> Reader<'a>
 // Five turns of the reader over a list.
 pub fn five(name: &[u8], cells: &[u16], list: &[u8]) {
     let r = lists::start(cells, list);
-    show::begun(name, lists::remaining(r), r.number, r.place);
+    show::begun(name, r);
     turn(turn(turn(turn(turn(r)))));
 }

@@ -18,10 +18,8 @@ fn least_in(table: &[u16], start: usize, n: usize) -> u16
     ensures { (j : ℕ) → j < n → result ≤ get_or table.now (start + j) 0 }
 {
     let mut v = UNREACHED;
-    let mut j: usize = 0;
-    while j < n {
+    for j in 0..n {
         v = least(v, table[start + j]);
-        j += 1;
     }
     v
 }
@@ -43,13 +41,10 @@ fn gotos_leave(cells: &[u16], d: Sizes, table: &[u16], q: usize, a: usize) -> bo
     requires q_lt_s { (q < d.s) × (a < d.t) }
     ensures { result ≡ false → (X : ℕ) → X < d.n → Unclaimed d (tables_of cells.now) (claim_in d table.now) q a X }
 {
-    let m = d.n;
-    let mut x: usize = 0;
-    while x < m {
+    for x in 0..d.n {
         if goto_leaves(cells, d, table, q, a, x) {
             return true;
         }
-        x += 1;
     }
     false
 }
@@ -59,12 +54,7 @@ fn shift_leaves(cells: &[u16], d: Sizes, q: usize, a: usize) -> bool
     requires q_lt_s { (q < d.s) × (a < d.t) }
     ensures { result ≡ false → (s : ℕ) → ¬ ((tables_of cells.now).act q a ≡ Shift s) }
 {
-    match action_at(cells, d, q, a) {
-        Action::Shift(_) => true,
-        Action::Error => false,
-        Action::Accept => false,
-        Action::Reduce(_) => false,
-    }
+    matches!(action_at(cells, d, q, a), Action::Shift(_))
 }
 
 // The flag of cell k.
@@ -72,20 +62,12 @@ fn flag(cells: &[u16], d: Sizes, table: &[u16], k: usize) -> u8
     requires { Fitted d cells.now table.now }
     ensures { result ≡ 0 → LeftNowhere d (tables_of cells.now) (claim_in d table.now) k }
 {
-    let states = d.s;
-    let t = d.t;
     let q = k / 32;
     let a = k % 32;
-    if q >= states {
+    if q >= d.s || a >= d.t {
         return 0;
     }
-    if a >= t {
-        return 0;
-    }
-    if shift_leaves(cells, d, q, a) {
-        return 1;
-    }
-    if gotos_leave(cells, d, table, q, a) {
+    if shift_leaves(cells, d, q, a) || gotos_leave(cells, d, table, q, a) {
         1
     } else {
         0
@@ -97,10 +79,7 @@ pub fn live_rows(cells: &[u16], d: Sizes, table: &[u16], rows: &mut [u8; 4096])
     ensures { Usable plain d cells.now table.now rows.new }
 {
     *rows = [0; 4096];
-    let end = d.s * 32;
-    let mut k: usize = 0;
-    while k < end {
+    for k in 0..d.s * 32 {
         rows[k] = flag(cells, d, table, k);
-        k += 1;
     }
 }

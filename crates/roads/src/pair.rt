@@ -16,10 +16,8 @@ fn as_layer(pairs: &[u16], t: usize, values: &mut [u16; 4096])
     requires { (1 ≤ t) × (t ≤ 32) × (length pairs.now ≤ 128 * t) × (length values.old ≡ 4096) }
     ensures { PairsIn t pairs.now (length pairs.now) values.new }
 {
-    let mut k: usize = 0;
-    while k < pairs.len() {
-        values[k / t * 32 + k % t] = pairs[k];
-        k += 1;
+    for (k, pair) in pairs.iter().enumerate() {
+        values[k / t * 32 + k % t] = *pair;
     }
 }
 
@@ -39,14 +37,12 @@ fn first_over(pairs: &[u16], t: usize, values: &[u16; 4096], flags: &[u8; 257]) 
     requires { (1 ≤ t) × (t ≤ 32) × (length pairs.now ≤ 128 * t) × (length values.now ≡ 4096) × (length flags.now ≡ 257) }
     ensures { Lowest (OverLayer t pairs.now (value_in plain values.now flags.now)) (length pairs.now) result }
 {
-    let mut k: usize = 0;
-    while k < pairs.len() {
-        if cost_at(values, flags, k / t, k % t) < pairs[k] {
+    for (k, pair) in pairs.iter().enumerate() {
+        if cost_at(values, flags, k / t, k % t) < *pair {
             return k;
         }
-        k += 1;
     }
-    k
+    pairs.len()
 }
 
 // The lowest such pair, or the number of pairs.

@@ -60,11 +60,10 @@ fn compare_at(
     if v >= UNREACHED {
         return lowest;
     }
-    match action_at(cells, d, last, z) {
-        Action::Reduce(p) => compare(cells, d, table, q, a, m, z, v, p as usize, lowest),
-        Action::Error => lowest,
-        Action::Accept => lowest,
-        Action::Shift(_) => lowest,
+    if let Action::Reduce(p) = action_at(cells, d, last, z) {
+        compare(cells, d, table, q, a, m, z, v, p as usize, lowest)
+    } else {
+        lowest
     }
 }
 
@@ -85,13 +84,10 @@ fn compare_state(
     requires q_lt_s { (q < d.s) × (a < d.t) × (last < d.s) × ¬ (flag_in flags.now last ≡ 0) }
     ensures { Lowered (Among d.t (λ z. ExceededAt d (tables_of cells.now) (claim_in d table.now) q a m last z (value_in plain values.now flags.now last z))) lowest result }
 {
-    let t = d.t;
     let row = last * 32;
     let mut low = lowest;
-    let mut z: usize = 0;
-    while z < t {
+    for z in 0..d.t {
         low = compare_at(cells, d, table, q, a, m, last, z, values[row + z], low);
-        z += 1;
     }
     low
 }
@@ -112,13 +108,10 @@ pub fn compare_layer(
     requires q_lt_s { (q < d.s) × (a < d.t) × Listed d.s flags.now }
     ensures { Lowered (ByLayer d (tables_of cells.now) (claim_in d table.now) q a m (value_in plain values.now flags.now)) lowest result }
 {
-    let count = count_on(flags);
     let mut low = lowest;
-    let mut i: usize = 0;
-    while i < count {
+    for i in 0..count_on(flags) {
         let last = state_on(flags, i);
         low = compare_state(cells, d, table, q, a, m, values, flags, last, low);
-        i += 1;
     }
     low
 }

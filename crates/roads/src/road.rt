@@ -100,15 +100,12 @@ fn lowest_of_state(
     ensures scratch_2 { Scratch values.new next.new }
     ensures lowered { Lowered (Among d.t (λ a. ByRoads d (tables_of cells.now) (claim_in d table.now) q a 0 len)) lowest result }
 {
-    let t = d.t;
     let mut low = lowest;
-    let mut a: usize = 0;
-    while a < t {
+    for a in 0..d.t {
         begin(values, flags, q, a);
         low = lowest_from(
             cells, d, positions, table, rows, q, a, len, 0, values, flags, next, next_flags, low,
         );
-        a += 1;
     }
     low
 }
@@ -125,10 +122,8 @@ pub fn lowest_road(cells: &[u16], d: Sizes, table: &[u16], rows: &[u8; 4096], to
     let mut flags = [0u8; 257];
     let mut next_flags = [0u8; 257];
     let len = longest_of_all(cells, d);
-    let states = d.s;
     let mut low = top;
-    let mut q: usize = 0;
-    while q < states {
+    for q in 0..d.s {
         low = lowest_of_state(
             cells,
             d,
@@ -143,7 +138,6 @@ pub fn lowest_road(cells: &[u16], d: Sizes, table: &[u16], rows: &[u8; 4096], to
             &mut next_flags,
             low,
         );
-        q += 1;
     }
     low
 }

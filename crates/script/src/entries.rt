@@ -15,10 +15,7 @@ fn wide(v: u8) -> usize
 
 // The byte at a place, 0 past the end.
 fn byte_at(s: &[u8], at: usize) -> u8 {
-    if at < s.len() {
-        return s[at];
-    }
-    0
+    if at < s.len() { s[at] } else { 0 }
 }
 
 pub fn put(to: &mut [u8], at: usize, v: u8) {
@@ -33,12 +30,12 @@ fn article_size(list: &[u8], at: usize) -> usize
     ensures { result ≤ 3 }
 {
     if byte_at(list, at) < 128 {
-        return 1;
+        1
+    } else if byte_at(list, at + 1) < 128 {
+        2
+    } else {
+        3
     }
-    if byte_at(list, at + 1) < 128 {
-        return 2;
-    }
-    3
 }
 
 // How many bytes the entry at a place has.
@@ -55,10 +52,8 @@ fn copy_entry(list: &[u8], from: usize, to: &mut [u8], at: usize) -> usize
     requires { (from < 256) × (at < 256) }
 {
     let n = entry_size(list, from);
-    let mut i: usize = 0;
-    while i < n {
+    for i in 0..n {
         put(to, at + i, byte_at(list, from + i));
-        i += 1;
     }
     at + n
 }
@@ -67,11 +62,9 @@ fn copy_entry(list: &[u8], from: usize, to: &mut [u8], at: usize) -> usize
 fn starts(list: &[u8]) -> [u8; 8] {
     let mut starts = [0u8; 8];
     let mut at: usize = 1;
-    let mut i: usize = 0;
-    while i < 8 {
-        starts[i] = (at % 256) as u8;
+    for start in starts.iter_mut() {
+        *start = (at % 256) as u8;
         at = at % 256 + entry_size(list, at % 256);
-        i += 1;
     }
     starts
 }
@@ -87,11 +80,9 @@ fn shuffle(starts: &mut [u8], n: usize, k: usize)
     requires { n < 256 }
 {
     let mut rest = k;
-    let mut i: usize = 0;
-    while i < n {
+    for i in 0..n {
         swap(starts, i, i + rest % (n - i) % 256);
         rest /= n - i;
-        i += 1;
     }
 }
 
@@ -102,10 +93,8 @@ pub fn arrange(list: &[u8], k: usize, to: &mut [u8]) {
     shuffle(&mut starts, n, k);
     put(to, 0, byte_at(list, 0));
     let mut at: usize = 1;
-    let mut i: usize = 0;
-    while i < n {
+    for i in 0..n {
         at = copy_entry(list, wide(byte_at(&starts, i)), to, at % 256);
-        i += 1;
     }
 }
 
@@ -113,13 +102,7 @@ pub fn arrange(list: &[u8], k: usize, to: &mut [u8]) {
 fn left_to(which: usize, digit: usize) -> u8
     ensures { result ≤ 1 }
 {
-    if digit == which {
-        return 1;
-    }
-    if digit == 2 {
-        return 1;
-    }
-    0
+    if digit == which || digit == 2 { 1 } else { 0 }
 }
 
 // How many of n entries split k leaves to the list.
@@ -128,11 +111,9 @@ fn count_left(which: usize, base: usize, k: usize, n: usize) -> u8
 {
     let mut rest = k;
     let mut count: u8 = 0;
-    let mut i: usize = 0;
-    while i < n {
+    for _ in 0..n {
         count += left_to(which, rest % base);
         rest /= base;
-        i += 1;
     }
     count
 }
@@ -142,9 +123,10 @@ fn copy_left(left: u8, list: &[u8], from: usize, to: &mut [u8], at: usize) -> us
     requires { (from < 256) × (at < 256) }
 {
     if left == 0 {
-        return at;
+        at
+    } else {
+        copy_entry(list, from, to, at)
     }
-    copy_entry(list, from, to, at)
 }
 
 // The entries that split k leaves to the list; answers the place after them.
@@ -156,12 +138,10 @@ pub fn copy_split(list: &[u8], which: usize, base: usize, k: usize, to: &mut [u8
     let mut rest = k;
     let mut from: usize = 1;
     let mut at: usize = 1;
-    let mut i: usize = 0;
-    while i < n {
+    for _ in 0..n {
         at = copy_left(left_to(which, rest % base), list, from % 256, to, at % 256);
         from = from % 256 + entry_size(list, from % 256);
         rest /= base;
-        i += 1;
     }
     at
 }

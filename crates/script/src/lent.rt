@@ -56,9 +56,5 @@ pub fn free_words() -> [u32; MASKS]
 pub fn room(args: &[u32], k: usize, most: usize) -> usize
     ensures { result ≤ most }
 {
-    let n = size(args, k);
-    if n < most {
-        return n;
-    }
-    most
+    size(args, k).min(most)
 }

@@ -36,14 +36,12 @@ fn end_at(text: &[u8], start: usize, stop: usize, byte: u8) -> usize
     requires { (start ≤ stop) × (stop ≤ length text.now) }
     ensures { (start ≤ result) × (result ≤ stop) }
 {
-    let mut at = start;
-    while at < stop {
+    for at in start..stop {
         if text[at] == byte {
             return at;
         }
-        at += 1;
     }
-    at
+    stop
 }
 
 // The numbers after a word; those of `bytes` are hexadecimal. Answers how many.

@@ -18,34 +18,26 @@ fn put(cells: &mut [u16; CELLS], count: usize, at: usize, v: u16) -> usize {
         return count;
     }
     cells[at] = v;
-    if count <= at {
-        return at + 1;
-    }
-    count
+    count.max(at + 1)
 }
 
 fn cells_of(args: &[u32], cells: &mut [u16; CELLS]) -> usize {
     let mut count: usize = 0;
-    let mut i: usize = 0;
-    while i < args.len() {
+    for i in 0..args.len() {
         count = put(cells, count, i, numbers::cell(args, i));
-        i += 1;
     }
     count
 }
 
 fn change(args: &[u32], cells: &mut [u16; CELLS], given: usize) -> usize {
     let mut count = given;
-    let pairs = args.len() / 2;
-    let mut i: usize = 0;
-    while i < pairs {
+    for i in 0..args.len() / 2 {
         count = put(
             cells,
             count,
             numbers::size(args, 2 * i),
             numbers::cell(args, 2 * i + 1),
         );
-        i += 1;
     }
     count
 }
@@ -61,62 +53,38 @@ fn fill(args: &[u32], cells: &mut [u16; CELLS], given: usize) -> usize {
     let mut at = numbers::size(args, 0);
     let mut v = numbers::cell(args, 3);
     let mut count = given;
-    let mut i: usize = 0;
-    while i < times {
+    for _ in 0..times {
         count = put(cells, count, at % 65536, v);
         at = at % 65536 + step;
         v = sum(v, by);
-        i += 1;
     }
     count
 }
 
 fn bytes_of(args: &[u32], bytes: &mut [u8; BYTES]) -> usize {
-    let mut i: usize = 0;
-    while i < args.len() {
-        if BYTES <= i {
-            return i;
-        }
+    let n = args.len().min(BYTES);
+    for i in 0..n {
         bytes[i] = numbers::byte(args, i);
-        i += 1;
     }
-    i
-}
-
-fn wide(v: u16) -> u32
-    ensures { result < 65536 }
-{
-    v as u32
+    n
 }
 
 // The first n cells.
 fn encode(cells: &[u16], n: usize, bytes: &mut [u8]) -> usize {
     let mut at: usize = 0;
-    let mut i: usize = 0;
-    while i < n {
-        if cells.len() <= i {
-            return at;
-        }
-        if bytes.len() <= at {
-            return at;
-        }
-        let v = wide(cells[i]);
+    for cell in &cells[..n.min(cells.len())] {
+        let v = u32::from(*cell);
         if bytes.len() - at < number::width(v) {
             return at;
         }
         at = number::write(v, bytes, at);
-        i += 1;
     }
     at
 }
 
 // The same book with other bytes.
 fn with_bytes(l: Lengths, bytes: usize) -> Lengths {
-    Lengths {
-        given: l.given,
-        cells: l.cells,
-        bytes,
-    }
+    Lengths { bytes, ..l }
 }
 
 fn make_bytes(
@@ -172,9 +140,5 @@ pub fn make(
 
 // The same bytes with another book.
 fn with_cells(l: Lengths, given: usize, cells: usize) -> Lengths {
-    Lengths {
-        given,
-        cells,
-        bytes: l.bytes,
-    }
+    Lengths { given, cells, ..l }
 }

@@ -4,21 +4,24 @@ ghost use Rattle.std.specs.Prelude.{◌≤◌, ◌<◌, length};
 // The most numbers of a line.
 pub const ARGS: usize = 17600;
 
-// A number that is being read: how often it stands there, 0 while it has no digit, and its digits as a decimal and a hexadecimal number.
+// Digits as a decimal and a hexadecimal number.
+#[derive(Clone, Copy)]
+struct Digits {
+    decimal: u32,
+    hex: u32,
+}
+
+// A number that is being read: how often it stands there, and its digits, once it has one.
 #[derive(Clone, Copy)]
 struct Partial {
     times: u32,
-    given: u32,
-    decimal: u32,
-    hex: u32,
+    digits: Option<Digits>,
 }
 
 fn none(times: u32) -> Partial {
     Partial {
         times,
-        given: 0,
-        decimal: 0,
-        hex: 0,
+        digits: None,
     }
 }
 
@@ -26,42 +29,26 @@ fn digit(c: u8) -> u32
     ensures { result < 16 }
 {
     let d = c as u32;
-    if c <= b'9' {
-        return d % 16;
-    }
-    (d + 9) % 16
+    if c <= b'9' { d % 16 } else { (d + 9) % 16 }
 }
 
 // After one character more.
 fn after(p: Partial, c: u8) -> Partial {
-    if c == b' ' {
-        return none(1);
+    let Digits { decimal, hex } = p.digits.unwrap_or(Digits { decimal: 0, hex: 0 });
+    match c {
+        b' ' => none(1),
+        b'*' => none(decimal),
+        _ => {
+            let d = digit(c);
+            Partial {
+                times: p.times,
+                digits: Some(Digits {
+                    decimal: decimal % 65536 * 10 + d,
+                    hex: hex % 65536 * 16 + d,
+                }),
+            }
+        }
     }
-    if c == b'*' {
-        return none(p.decimal);
-    }
-    let d = digit(c);
-    Partial {
-        times: p.times,
-        given: p.times,
-        decimal: p.decimal % 65536 * 10 + d,
-        hex: p.hex % 65536 * 16 + d,
-    }
-}
-
-// How often the number stands there, if it ends before this character.
-fn ended(p: Partial, c: u8) -> u32 {
-    if c == b' ' {
-        return p.given;
-    }
-    0
-}
-
-fn value(p: Partial, hex: bool) -> u32 {
-    if hex {
-        return p.hex;
-    }
-    p.decimal
 }
 
 // Stores a value so many times from a place on; answers the place after it.
@@ -69,17 +56,25 @@ fn store(to: &mut [u32], start: usize, times: u32, value: u32) -> usize
     requires { start ≤ length to.old }
     ensures { result ≤ length to.new }
 {
-    let mut at = start;
-    let mut i: u32 = 0;
-    while i < times {
-        if to.len() <= at {
-            return at;
-        }
-        to[at] = value;
-        at += 1;
-        i += 1;
-    }
-    at
+    let end = start + wide(times).min(to.len() - start);
+    to[start..end].fill(value);
+    end
+}
+
+// Stores a number, if it has a digit.
+fn put(to: &mut [u32], start: usize, p: Partial, hex: bool) -> usize
+    requires { start ≤ length to.old }
+    ensures { result ≤ length to.new }
+{
+    let Some(digits) = p.digits else {
+        return start;
+    };
+    store(
+        to,
+        start,
+        p.times,
+        if hex { digits.hex } else { digits.decimal },
+    )
 }
 
 // The numbers of a text; answers how many.
@@ -88,14 +83,13 @@ pub fn read(text: &[u8], hex: bool, to: &mut [u32]) -> usize
 {
     let mut n: usize = 0;
     let mut p = none(1);
-    let mut at: usize = 0;
-    while at < text.len() {
-        let c = text[at];
-        n = store(to, n, ended(p, c), value(p, hex));
-        p = after(p, c);
-        at += 1;
+    for c in text {
+        if *c == b' ' {
+            n = put(to, n, p, hex);
+        }
+        p = after(p, *c);
     }
-    store(to, n, p.given, value(p, hex))
+    put(to, n, p, hex)
 }
 
 fn wide(v: u32) -> usize
@@ -108,10 +102,7 @@ fn wide(v: u32) -> usize
 pub fn size(args: &[u32], k: usize) -> usize
     ensures { result < 4294967296 }
 {
-    if k < args.len() {
-        return wide(args[k]);
-    }
-    0
+    if k < args.len() { wide(args[k]) } else { 0 }
 }
 
 pub fn cell(args: &[u32], k: usize) -> u16 {

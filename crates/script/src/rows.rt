@@ -15,21 +15,15 @@ pub const BYTE: u8 = 170;
 
 // The answer at the front of a row.
 pub fn put_answer(answer: &[u64; 8], row: &mut [u8]) {
-    let mut i: usize = 0;
-    while i < 8 {
-        put(row, i, (answer[i] % 256) as u8);
-        i += 1;
+    for (i, v) in answer.iter().enumerate() {
+        put(row, i, (*v % 256) as u8);
     }
 }
 
 pub fn store(rows: &mut [u8; ROWS], k: usize, row: &[u8; ROW])
     requires { k < 1024 }
 {
-    let mut i: usize = 0;
-    while i < ROW {
-        rows[k * ROW + i] = row[i];
-        i += 1;
-    }
+    rows[k * ROW..k * ROW + ROW].copy_from_slice(row);
 }
 
 fn same_row(rows: &[u8], j: usize, k: usize) -> bool
@@ -43,12 +37,10 @@ fn equal(rows: &[u8], start: usize, end: usize, k: usize) -> usize
     requires { (end ≤ 1024) × (k < 1024) × (length rows.now ≡ 65536) }
 {
     let mut n: usize = 0;
-    let mut j = start;
-    while j < end {
+    for j in start..end {
         if same_row(rows, j, k) {
             n += 1;
         }
-        j += 1;
     }
     n
 }
@@ -58,13 +50,11 @@ fn tell(rows: &[u8], count: usize) -> usize
     requires { (count ≤ 1024) × (length rows.now ≡ 65536) }
 {
     let mut different: usize = 0;
-    let mut k: usize = 0;
-    while k < count {
+    for k in 0..count {
         if equal(rows, 0, k, k) == 0 {
             trial::label(b" ", equal(rows, k, count, k));
             different += 1;
         }
-        k += 1;
     }
     different
 }

@@ -8,24 +8,19 @@ const MOST: usize = 65536;
 fn used(answer: &[u64; 8]) -> usize
     ensures { result ≤ 8 }
 {
-    let mut n: usize = 8;
-    while 1 < n {
-        if answer[n - 1] != 0 {
-            return n;
+    for k in (1..8).rev() {
+        if answer[k] != 0 {
+            return k + 1;
         }
-        n -= 1;
     }
-    n
+    1
 }
 
 pub fn answer(call: &[u8], answer: &[u64; 8]) {
     trial::text(call);
-    let n = used(answer);
-    let mut i: usize = 0;
-    while i < n {
+    for v in &answer[..used(answer)] {
         trial::text(b" ");
-        io::print_decimal(1, answer[i]);
-        i += 1;
+        io::print_decimal(1, *v);
     }
 }
 
@@ -34,14 +29,12 @@ fn run_end(s: &[u32], start: usize) -> usize
     requires { start < length s.now }
     ensures { (start < result) × (result ≤ length s.now) }
 {
-    let mut at = start + 1;
-    while at < s.len() {
+    for at in start + 1..s.len() {
         if s[at] != s[start] {
             return at;
         }
-        at += 1;
     }
-    at
+    s.len()
 }
 
 fn run(value: u32, times: usize) {
@@ -53,21 +46,10 @@ fn run(value: u32, times: usize) {
     trial::word(b"", value);
 }
 
-fn wide(v: u32) -> u64
-    ensures { result < 4294967296 }
-{
-    v as u64
-}
-
 // A sum that tells the order.
 fn sum(s: &[u32]) -> u64 {
-    let mut sum: u64 = 0;
-    let mut i: usize = 0;
-    while i < s.len() {
-        sum = (31 * (sum % 65521) + wide(s[i])) % 65521;
-        i += 1;
-    }
-    sum
+    s.iter()
+        .fold(0, |sum, v| (31 * (sum % 65521) + u64::from(*v)) % 65521)
 }
 
 // Memory as runs of equal values, `n*v` for n times v; after 64 runs the sum over all of it.
@@ -88,40 +70,22 @@ pub fn words(s: &[u32]) {
     }
 }
 
-fn wide_cell(v: u16) -> u32 {
-    v as u32
-}
-
-fn wide_byte(v: u8) -> u32 {
-    v as u32
-}
-
 fn widen_cells(s: &[u16], to: &mut [u32]) -> usize
     ensures { result ≤ length to.new }
 {
-    let mut i: usize = 0;
-    while i < s.len() {
-        if to.len() <= i {
-            return i;
-        }
-        to[i] = wide_cell(s[i]);
-        i += 1;
+    for (wide, v) in to.iter_mut().zip(s) {
+        *wide = u32::from(*v);
     }
-    i
+    s.len().min(to.len())
 }
 
 fn widen_bytes(s: &[u8], to: &mut [u32]) -> usize
     ensures { result ≤ length to.new }
 {
-    let mut i: usize = 0;
-    while i < s.len() {
-        if to.len() <= i {
-            return i;
-        }
-        to[i] = wide_byte(s[i]);
-        i += 1;
+    for (wide, v) in to.iter_mut().zip(s) {
+        *wide = u32::from(*v);
     }
-    i
+    s.len().min(to.len())
 }
 
 fn blank() -> [u32; MOST]

@@ -70,10 +70,8 @@ pub fn cost_to_go(
 {
     let i = g * 32 + c;
     let mut cost = togo[i];
-    let mut m: usize = 0;
-    while m < len {
+    for m in 0..len {
         cost = lesser_end(cells, d, due, len, left, stack, kept, i, m, cost);
-        m += 1;
     }
     cost
 }

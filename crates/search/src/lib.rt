@@ -6,10 +6,3 @@ mod ends;
 mod settle;
 
 pub use descend::search_with;
-
-#[derive(Clone, Copy)]
-pub enum Found {
-    // How many states of the stack are kept, and the state on top of them.
-    At(usize, usize),
-    Nothing,
-}

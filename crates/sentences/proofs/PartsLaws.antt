@@ -1,5 +1,6 @@
 -- Laws of the sentences as they are put, one pair after the other. Assumes nothing.
-use Rattle.std.specs.Prelude.{Bool, true, false, List, [], ◌∷◌, ◌++◌, map, ◌≡◌, refl, ℕ, ◌+◌, ◌*◌, ◌/◌, ◌%◌, ◌≤◌, ◌<◌, length, get_or, set}
+use Rattle.number.specs.declared.cause.Refusal.{Refusal}
+use Rattle.std.specs.Prelude.{Result, Ok, Bool, true, false, List, [], ◌∷◌, ◌++◌, map, ◌≡◌, refl, ℕ, ◌+◌, ◌*◌, ◌/◌, ◌%◌, ◌≤◌, ◌<◌, length, get_or, set}
 use Rattle.std.proofs.Common.{append_assoc, append-nil, ⊎_elim, sym, ◌∙◌, ap, subst, not-suc-le-zero, suc-mul, arith, ltb-false, length-set, length-append}
 use Rattle.std.proofs.Math.Decide.{ℕ_discrete}
 use Rattle.std.proofs.lemmas.List.{length-map}
@@ -13,10 +14,7 @@ use Rattle.book.specs.CallLaws.{steps-none}
 use Rattle.book.specs.IndexLaws.{index_below, index-digits, index-split}
 use Rattle.book.specs.RangeLaws.{Small}
 use Rattle.book.specs.Tables.{Tables}
-use Rattle.book.specs.declared.Checked.TheVariants.{Valid}
 use Rattle.book.specs.declared.Sizes.{Sizes}
-use Rattle.book.specs.declared.Written.{Written}
-use Rattle.book.specs.declared.Written.TheVariants.{Count}
 use Rattle.machine.specs.Machine.{Terminals}
 use Rattle.machine.specs.MachineLaws.{terminal-at}
 use Rattle.walk.specs.Answer.{Outcome, Unreached, Long, Sentence, Best, WordsOf, AnswerAs}
@@ -46,7 +44,7 @@ pub break-costs : {d : Sizes} {cells dist : List ℕ} → BreakTable plain d cel
 break-costs x = record { size = x.size; exact = x.exact }
 
 -- ---- what is admitted
-pub sentences-admitted : (work lent bytes : ℕ) (d : Sizes) {x : Sizes} → steps (Valid d) (sentences_refusals work lent bytes d) ≡ Valid x
+pub sentences-admitted : (work lent bytes : ℕ) (d : Sizes) {x : Sizes} → steps (Ok d) (sentences_refusals work lent bytes d) ≡ Ok x
     → (work_cells d ≤ work) × (d.s * d.t ≤ lent) × (d.s * d.t * 1002 ≤ bytes)
 unfolding sentences_refusals
 sentences-admitted work lent bytes d e =
@@ -187,7 +185,7 @@ module _ {breaks : Bool} {rank : ℕ → ℕ} {B : Tables} {states terminals : �
 
   -- what the call tells of them, with the work cells cleared
   pub all_told : {count : ℕ} {filled left worked : List ℕ} (d : Sizes) (work : List ℕ) → AllPut breaks rank B states terminals lent bytes count (filled, left) → worked ≡ cleared d work
-      → Tells {Told = Written × (List ℕ × (List ℕ × List ℕ))} (Answers breaks rank B states terminals)
-      (λ os. (Count (length (sentence_bytes os)), (cleared d work, (over (map cell_of os) lent, over (sentence_bytes os) bytes))))
-      (Count count, (worked, (filled, left)))
-  all_told d work a e = record { thing = a.thing; right = a.right; same = rw e (ap (λ (p : ℕ × (List ℕ × List ℕ)). (Count p.0, (cleared d work, p.1))) a.same) }
+      → Tells {Told = Result ℕ Refusal × (List ℕ × (List ℕ × List ℕ))} (Answers breaks rank B states terminals)
+      (λ os. (Ok (length (sentence_bytes os)), (cleared d work, (over (map cell_of os) lent, over (sentence_bytes os) bytes))))
+      (Ok count, (worked, (filled, left)))
+  all_told d work a e = record { thing = a.thing; right = a.right; same = rw e (ap (λ (p : ℕ × (List ℕ × List ℕ)). (Ok p.0, (cleared d work, p.1))) a.same) }

@@ -18,7 +18,6 @@ abbrev pub bytes_in : Found → List ℕ → List ℕ
 bytes_in Found.Unreached buffer = []
 bytes_in Found.Long buffer = []
 bytes_in (Found.Sentence n) buffer = written n ++ take n buffer
-bytes_in (Found.Refused r) buffer = []
 
 -- each entry is the least cost of the words of its pair
 pub record CostTable (breaks : Bool) (d : Sizes) (cells costs : List ℕ) : Type 0 where

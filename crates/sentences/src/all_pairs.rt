@@ -10,8 +10,9 @@ ghost use Rattle.sentences.specs.Sentences.{SentencesAs, Sentences, BreakSentenc
 use crate::admission::admit;
 use crate::costs::costs_in;
 use crate::pairs::put_pairs;
-use book::{Checked, Sizes, Written};
+use book::Sizes;
 use forms::{PLAIN, by_rank, plain_cells, plain_sizes};
+use number::Refusal;
 use walk::UNREACHED;
 use work::{clear, work_cells};
 
@@ -76,14 +77,12 @@ fn sentences_in(
     work: &mut [u16],
     map: &mut [u16],
     bytes: &mut [u8],
-) -> Written
+) -> Result<usize, Refusal>
     requires { Accepted d cells.now }
     ensures { SentencesAs breaks cells.now work.old map.old bytes.old (result, (work.new, (map.new, bytes.new))) }
 {
-    match admit(d, work.len(), map.len(), bytes.len()) {
-        Checked::Refused(r) => Written::Refused(r),
-        Checked::Valid(_) => Written::Count(solve(cells, d, breaks, work, map, bytes)),
-    }
+    admit(d, work.len(), map.len(), bytes.len())?;
+    Ok(solve(cells, d, breaks, work, map, bytes))
 }
 
 // .. of either kind, of a book that is checked first.
@@ -93,17 +92,20 @@ fn sentences_as(
     work: &mut [u16],
     map: &mut [u16],
     bytes: &mut [u8],
-) -> Written
+) -> Result<usize, Refusal>
     ensures { SentencesAs breaks cells.now work.old map.old bytes.old (result, (work.new, (map.new, bytes.new))) }
 {
-    match book::check(cells) {
-        Checked::Refused(r) => Written::Refused(r),
-        Checked::Valid(d) => sentences_in(cells, d, breaks, work, map, bytes),
-    }
+    let d = book::check(cells)?;
+    sentences_in(cells, d, breaks, work, map, bytes)
 }
 
 // Writes the map, and the sentence of each pair that `find` answers one for; says how many bytes the sentences have.
-pub fn sentences(cells: &[u16], work: &mut [u16], map: &mut [u16], bytes: &mut [u8]) -> Written
+pub fn sentences(
+    cells: &[u16],
+    work: &mut [u16],
+    map: &mut [u16],
+    bytes: &mut [u8],
+) -> Result<usize, Refusal>
     ensures { Sentences cells.now work.old map.old bytes.old (result, (work.new, (map.new, bytes.new))) }
 {
     sentences_as(cells, false, work, map, bytes)
@@ -115,7 +117,7 @@ pub fn break_sentences(
     work: &mut [u16],
     map: &mut [u16],
     bytes: &mut [u8],
-) -> Written
+) -> Result<usize, Refusal>
     ensures { BreakSentences cells.now work.old map.old bytes.old (result, (work.new, (map.new, bytes.new))) }
 {
     sentences_as(cells, true, work, map, bytes)

@@ -35,10 +35,8 @@ fn put_found(found: Found, sentence: &[u8], bytes: &mut [u8], at: usize) -> usiz
     ensures upper_bound { result ≤ at + 1002 }
 {
     match found {
-        Found::Unreached => at,
-        Found::Long => at,
+        Found::Unreached | Found::Long => at,
         Found::Sentence(n) => put_sentence(sentence, n, bytes, at),
-        Found::Refused(_) => at,
     }
 }
 
@@ -90,14 +88,12 @@ pub fn put_pairs(
     ensures pairs_put { PairsPut breaks (place_in order.now) (tables_of cells.now) d.t (d.s * d.t) map.old bytes.old map.new bytes.new result }
     ensures upper_bound { result ≤ d.s * d.t * 1002 }
 {
-    let t = d.t;
-    let n = d.s * t;
+    let n = d.s * d.t;
     let mut sentence = [0u8; 1000];
     let mut at: usize = 0;
-    let mut i: usize = 0;
-    while i < n {
-        let s = i / t;
-        let z = i % t;
+    for i in 0..n {
+        let s = i / d.t;
+        let z = i % d.t;
         let cost = costs[s * 32 + z];
         map[i] = cost;
         at = put_pair(
@@ -113,7 +109,6 @@ pub fn put_pairs(
             bytes,
             at,
         );
-        i += 1;
     }
     at
 }

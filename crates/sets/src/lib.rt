@@ -19,10 +19,7 @@ fn insert_if(set: u32, z: usize, test: bool) -> u32
     requires { z < 32 }
     ensures { result ≡ cond test (bit_or set (2 ^ z)) set }
 {
-    if test {
-        return insert(set, z);
-    }
-    set
+    if test { insert(set, z) } else { set }
 }
 
 // Whether z is in the set: whether putting it in changes nothing.
@@ -46,10 +43,8 @@ pub fn members(costs: &[u16], mark: u16) -> u32
     ensures { result ≡ set_of (below costs.now mark) (length costs.now) }
 {
     let mut set: u32 = 0;
-    let mut z: usize = 0;
-    while z < costs.len() {
-        set = insert_if(set, z, costs[z] < mark);
-        z += 1;
+    for (z, cost) in costs.iter().enumerate() {
+        set = insert_if(set, z, *cost < mark);
     }
     set
 }

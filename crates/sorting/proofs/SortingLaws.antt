@@ -1,5 +1,5 @@
 -- Laws of sorting: what the sorted list is, and on what it does not depend. Assumes nothing.
-use Rattle.std.specs.Prelude.{true, false, List, [], ◌≡◌, refl, ℕ, ◌≤◌, length, take}
+use Rattle.std.specs.Prelude.{Result, Ok, true, false, List, [], ◌≡◌, refl, ℕ, ◌≤◌, length, take}
 use Rattle.std.proofs.Common.{sym, ◌∙◌, ap, arith}
 use Rattle.std.proofs.lemmas.List.{length-map}
 use Rattle.number.specs.Lent.{over}
@@ -26,8 +26,8 @@ use Rattle.sorting.specs.OrderLaws.{AllBelow}
 use Rattle.sorting.proofs.OrderLaws.{clean-below, by-state-rearranged, sorted-clean, ordered-free, ordered-kept, rearranged-clean, rearranged-sorted}
 use Rattle.sorting.specs.Sorting.{by_state, sorted_bytes, sorted_by, sorts}
 use Rattle.sorting.specs.SortingLaws.{InOrder}
-use Rattle.sorting.specs.declared.Sorted.{Sorted}
-use Rattle.sorting.specs.declared.Sorted.TheVariants.{Count, Refused}
+use Rattle.sorting.specs.declared.Unsorted.{Unsorted}
+use Rattle.sorting.specs.declared.Unsorted.TheVariants.{Refused}
 
 -- ---- entries that were sorted into lent bytes
 record IsSorted (B : Tables) (xs : List Item) (lent : List ℕ) (n : ℕ) (out : List ℕ) : Type 0 where
@@ -35,22 +35,22 @@ record IsSorted (B : Tables) (xs : List Item) (lent : List ℕ) (n : ℕ) (out :
   pub faultless : course false B 0 [] xs ≡ clean states
   pub fits : Fits (sorted_bytes B xs) lent n out
 
-sorted-by : {B : Tables} {xs : List Item} {lent out : List ℕ} {n : ℕ} → sorted_by (sorted_bytes B xs) (course false B 0 [] xs) lent ≡ (Count n, out) → IsSorted B xs lent n out
+sorted-by : {B : Tables} {xs : List Item} {lent out : List ℕ} {n : ℕ} → sorted_by (sorted_bytes B xs) (course false B 0 [] xs) lent ≡ (Ok n, out) → IsSorted B xs lent n out
 sorted-by {B} {xs} {lent} {out} {n} e = go (course false B 0 [] xs) refl e
   where
-    go : (c : Course) → course false B 0 [] xs ≡ c → sorted_by (sorted_bytes B xs) c lent ≡ (Count n, out) → IsSorted B xs lent n out
-    go (fault j) f g = absurd (clash (cc (ap (λ (p : Sorted × List ℕ). p.0) g)))
-    go (clean states) f g = record { states = states; faultless = f; fits = told-fits Count Refused (sorted_bytes B xs) lent (λ m h. cc) (λ r h. clash cc) g }
+    go : (c : Course) → course false B 0 [] xs ≡ c → sorted_by (sorted_bytes B xs) c lent ≡ (Ok n, out) → IsSorted B xs lent n out
+    go (fault j) f g = absurd (clash (cc (ap (λ (p : Result ℕ Unsorted × List ℕ). p.0) g)))
+    go (clean states) f g = record { states = states; faultless = f; fits = told-fits Refused (sorted_bytes B xs) lent g }
 
 module _ (cells bytes : List ℕ) {es : List Entry} {end : ℕ} (l : list_in cells bytes ≡ entries es end) where
-  told-sorted : {lent out : List ℕ} {n : ℕ} → sorts cells bytes lent ≡ (Count n, out) → IsSorted (tables_of cells) (items bytes es) lent n out
+  told-sorted : {lent out : List ℕ} {n : ℕ} → sorts cells bytes lent ≡ (Ok n, out) → IsSorted (tables_of cells) (items bytes es) lent n out
   unfolding sorts
   told-sorted e = sorted-by (rw l at e)
 
   sorted-told : {states : List ℕ} {n : ℕ} (r lent : List ℕ) → course false (tables_of cells) 0 [] (items bytes es) ≡ clean states
-      → sorted_bytes (tables_of cells) (items bytes es) ≡ r → length r ≡ n → n ≤ length lent → sorts cells bytes lent ≡ (Count n, over r lent)
+      → sorted_bytes (tables_of cells) (items bytes es) ≡ r → length r ≡ n → n ≤ length lent → sorts cells bytes lent ≡ (Ok n, over r lent)
   unfolding sorts
-  sorted-told r lent c e f room = rw (l, c, e) (fits_told Count Refused r lent f room)
+  sorted-told r lent c e f room = rw (l, c, e) (fits_told Refused r lent f room)
 
 -- ---- two lists with the same entries
 module _ (cells first second : List ℕ) {es fs : List Entry} {end last : ℕ} (l : list_in cells first ≡ entries es end) (m : list_in cells second ≡ entries fs last)
@@ -61,7 +61,7 @@ module _ (cells first second : List ℕ) {es fs : List Entry} {end last : ℕ} (
   same-sorted lent c = rw (l, m, c, (rearranged-clean (tables_of cells) r c).1, rearranged-sorted (tables_of cells) r c (tables_of cells).states)
 
   -- 'two lists with the same entries in different order sort to the same bytes'
-  pub sort-same : (lent : List ℕ) {out : List ℕ} {n : ℕ} → sorts cells first lent ≡ (Count n, out) → sorts cells second lent ≡ (Count n, out)
+  pub sort-same : (lent : List ℕ) {out : List ℕ} {n : ℕ} → sorts cells first lent ≡ (Ok n, out) → sorts cells second lent ≡ (Ok n, out)
   sort-same lent e = sym (same-sorted lent (told-sorted cells first l e).faultless) ∙ e
 
 module _ (d : Sizes) (cells : List ℕ) (h : Accepted d cells) where
@@ -116,10 +116,10 @@ module _ (d : Sizes) (cells : List ℕ) (h : Accepted d cells) where
         ap list_bytes (ordered-kept (tables_of cells) (list-below (ordered-free (tables_of cells) 0 [] (items bytes es) c)) c) ∙ list_written d.t bytes b few read-so
 
     pub ordered-back : {states : List ℕ} (lent : List ℕ) → Bytes bytes → course true (tables_of cells) 0 [] (items bytes es) ≡ clean states → length bytes ≤ length lent
-        → sorts cells bytes lent ≡ (Count (length bytes), over bytes lent)
+        → sorts cells bytes lent ≡ (Ok (length bytes), over bytes lent)
     ordered-back lent b c room = sorted-told cells bytes l bytes lent (ordered-free (tables_of cells) 0 [] (items bytes es) c) (ordered-bytes b c) refl room
 
-    module _ (lent : List ℕ) {out : List ℕ} {n : ℕ} (e : sorts cells bytes lent ≡ (Count n, out)) where
+    module _ (lent : List ℕ) {out : List ℕ} {n : ℕ} (e : sorts cells bytes lent ≡ (Ok n, out)) where
       is_sorted : IsSorted (tables_of cells) (items bytes es) lent n out
       is_sorted = told-sorted cells bytes l e
 
@@ -131,7 +131,7 @@ module _ (d : Sizes) (cells : List ℕ) (h : Accepted d cells) where
       sort-accepted = rw sort-bytes (in_order is_sorted.faultless)
 
       -- 'sorting it again gives it back', wherever it has room
-      pub sort-again : (room : List ℕ) → n ≤ length room → sorts cells (take n out) room ≡ (Count n, over (take n out) room)
+      pub sort-again : (room : List ℕ) → n ≤ length room → sorts cells (take n out) room ≡ (Ok n, over (take n out) room)
       sort-again room f =
           sym (same-sorted cells bytes (take n out) l sort-accepted.list sort-accepted.same room is_sorted.faultless)
           ∙ sorted-told cells bytes l (take n out) room is_sorted.faultless (sym sort-bytes) (rw sort-bytes is_sorted.fits.count) f

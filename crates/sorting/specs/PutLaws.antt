@@ -1,7 +1,9 @@
 -- Laws of bytes that are put into lent bytes piece by piece. Assumes nothing.
-use Rattle.std.specs.Prelude.{◌≡◌, List, [], ◌∷◌, ◌++◌, ℕ, suc, ◌+◌, ◌≤◌, ◌<◌, length, get_or, drop, set}
-use Rattle.std.proofs.Common.{◌∙◌, add-one, arith, length-drop, take-suc, get_or-drop, length-take-le}
-use Rattle.std.proofs.lemmas.List.Edits.{sets, sets-eq}
+use borrow.Rule.Slice.PartMut.{put_mid}
+use Rattle.std.specs.Prelude.{◌≡◌, refl, List, [], ◌∷◌, ◌++◌, ℕ, suc, ◌+◌, ◌≤◌, ◌<◌, length, get_or, take, drop, set}
+use Rattle.std.proofs.Common.{sym, ◌∙◌, append_assoc, add-one, arith, length-drop, take-suc, get_or-drop, length-take-le}
+use Rattle.std.proofs.lemmas.List.Edits.{sets, sets-eq, paste_all}
+use Rattle.std.proofs.lemmas.Slice.{put_mid-paste}
 use Rattle.number.specs.Lent.{over}
 use Rattle.lists.specs.Entry.{part}
 
@@ -17,6 +19,15 @@ put_byte from lent start at i h =
     let short : i < length (drop start from) = rw length-drop (omega arith) in
     put-more (part from start i) (get_or from (start + i) 0 ∷ []) lent at (at + i) (rw (length-take-le i (drop start from) (omega arith)))
     ∙ rw (add-one, take-suc (drop start from) i 0, get_or-drop)
+
+-- a piece over a part as long
+pub put-part : (piece lent : List ℕ) (at n : ℕ) → length piece ≡ n → at + n ≤ length lent → put_mid at n lent piece ≡ sets lent at piece
+put-part piece lent at n e h =
+    let spelled : sets lent at piece ≡ take at lent ++ piece ++ drop (at + n) lent = rw (← e) (sets-eq piece lent at (omega arith)) in
+    put_mid-paste at n lent piece piece n refl refl (sym e)
+    ∙ paste_all lent at piece n (sym e)
+    ∙ sym (append_assoc (take at lent) piece (drop (at + n) lent))
+    ∙ sym spelled
 
 -- at the front
 pub put_front : (piece lent : List ℕ) → length piece ≤ length lent → sets lent 0 piece ≡ over piece lent

@@ -5,18 +5,14 @@ ghost use Rattle.lists.specs.Entry.{part};
 ghost use Rattle.items.specs.SpanLaws.{span_at};
 ghost use Rattle.sorting.specs.UpTo.{spans_to};
 
-use lists::{Step, entry_at};
+use lists::entry_at;
 
 // n bytes, from a place of the one to a place of the other.
 pub fn copy_bytes(from: &[u8], start: usize, n: usize, to: &mut [u8], at: usize)
     requires { (start + n ≤ length from.now) × (at + n ≤ length to.old) }
     ensures { to.new ≡ sets to.old at (part from.now start n) }
 {
-    let mut i: usize = 0;
-    while i < n {
-        to[at + i] = from[start + i];
-        i += 1;
-    }
+    to[at..at + n].copy_from_slice(&from[start..start + n]);
 }
 
 // The entry at a place of a list, where 0 is none, to an offset; answers the offset after it.
@@ -29,8 +25,8 @@ pub fn put_entry(list: &[u8], place: usize, out: &mut [u8], at: usize) -> usize
         return at;
     }
     match entry_at(list, place, 32) {
-        Step::Refused(_) => at,
-        Step::Found(_, next) => {
+        Err(_) => at,
+        Ok((_, next)) => {
             let n = next.at - place;
             copy_bytes(list, place, n, out, at);
             at + n
@@ -45,9 +41,7 @@ pub fn put_entries(list: &[u8], places: &[usize; 128], states: usize, out: &mut 
     ensures { out.new ≡ sets out.old start (spans_to list.now places.now states) }
 {
     let mut at = start;
-    let mut s: usize = 0;
-    while s < states {
+    for s in 0..states {
         at = put_entry(list, places[s], out, at);
-        s += 1;
     }
 }

@@ -8,14 +8,14 @@ ghost use Rattle.course.specs.Course.{clean};
 ghost use Rattle.sorting.specs.Sorting.{sorted_by, sorted_in, sorts};
 ghost use Rattle.sorting.specs.UpTo.{spans_to};
 
-use crate::Sorted;
+use crate::Unsorted;
 use crate::putting::{copy_bytes, put_entries};
-use book::{Checked, Sizes};
-use course::{Faults, judge_entries};
+use book::Sizes;
+use course::judge_entries;
 use forms::{PLAIN, plain_cells, plain_sizes};
-use lists::{Listing, Rest, check_entries};
+use lists::{Rest, check_entries};
 use machine::DEPTH;
-use number::Refusal;
+use number::{Cause, Refusal};
 
 // The count as it stands before the first entry, then the entries by the places of the states. They are all of the list's bytes.
 fn put_list(
@@ -24,25 +24,28 @@ fn put_list(
     places: &[usize; 128],
     states: usize,
     out: &mut [u8],
-) -> Sorted
+) -> Result<usize, Unsorted>
     requires states_bound { states ≤ 128 }
     requires states_value { first + length (spans_to list.now places.now states) ≡ length list.now }
     ensures { (result, out.new) ≡ sorted_by (take first list.now ++ spans_to list.now places.now states) (clean []) out.old }
 {
     let n = list.len();
     if out.len() < n {
-        return Sorted::Refused(Refusal {
-            number: 12,
-            place: 0,
-        });
+        return Err(Unsorted::Refused(Refusal::at(Cause::Output, 0)));
     }
     copy_bytes(list, 0, first, out, 0);
     put_entries(list, places, states, out, first);
-    Sorted::Count(n)
+    Ok(n)
 }
 
 // The list against plain cells; its entries stand from an offset on.
-fn sort_plain(cells: &[u16], d: Sizes, list: &[u8], rest: Rest, out: &mut [u8]) -> Sorted
+fn sort_plain(
+    cells: &[u16],
+    d: Sizes,
+    list: &[u8],
+    rest: Rest,
+    out: &mut [u8],
+) -> Result<usize, Unsorted>
     requires holds { Holds d cells.now }
     requires list_accepted { ListAccepted list.now (list_of d.t list.now) rest }
     ensures { (result, out.new) ≡ sorted_in (tables_of cells.now) list.now (list_of d.t list.now) out.old }
@@ -50,7 +53,7 @@ fn sort_plain(cells: &[u16], d: Sizes, list: &[u8], rest: Rest, out: &mut [u8]) 
     let first = rest.at;
     let mut places = [0usize; 128];
     let mut stack = [0u16; DEPTH];
-    match judge_entries(
+    judge_entries(
         cells,
         d,
         list,
@@ -59,14 +62,18 @@ fn sort_plain(cells: &[u16], d: Sizes, list: &[u8], rest: Rest, out: &mut [u8]) 
         false,
         &mut places,
         &mut stack,
-    ) {
-        Faults::First(j) => Sorted::Fault(j),
-        Faults::None => put_list(list, first, &places, d.s, out),
-    }
+    )?;
+    put_list(list, first, &places, d.s, out)
 }
 
 // .. against a book of any form.
-fn sort_from(cells: &[u16], d: Sizes, list: &[u8], rest: Rest, out: &mut [u8]) -> Sorted
+fn sort_from(
+    cells: &[u16],
+    d: Sizes,
+    list: &[u8],
+    rest: Rest,
+    out: &mut [u8],
+) -> Result<usize, Unsorted>
     requires accepted { Accepted d cells.now }
     requires list_accepted { ListAccepted list.now (list_of d.t list.now) rest }
     ensures { (result, out.new) ≡ sorted_in (tables_of cells.now) list.now (list_of d.t list.now) out.old }
@@ -77,23 +84,19 @@ fn sort_from(cells: &[u16], d: Sizes, list: &[u8], rest: Rest, out: &mut [u8]) -
 }
 
 // The list against a book that was checked.
-fn sort_against(cells: &[u16], d: Sizes, list: &[u8], out: &mut [u8]) -> Sorted
+fn sort_against(cells: &[u16], d: Sizes, list: &[u8], out: &mut [u8]) -> Result<usize, Unsorted>
     requires { Accepted d cells.now }
     ensures { (result, out.new) ≡ sorts cells.now list.now out.old }
 {
-    match check_entries(list, d.t) {
-        Listing::Refused(r) => Sorted::Refused(r),
-        Listing::Entries(rest) => sort_from(cells, d, list, rest, out),
-    }
+    let rest = check_entries(list, d.t)?;
+    sort_from(cells, d, list, rest, out)
 }
 
 // Writes the list in ascending order of the states where its entries fail, at the front of the lent bytes; or tells its first wrong or
 // repeated entry; or refuses by the refusals of `check_list`, then 12 if the result does not fit. It writes no byte unless it answers a count.
-pub fn sort_list(cells: &[u16], list: &[u8], out: &mut [u8]) -> Sorted
+pub fn sort_list(cells: &[u16], list: &[u8], out: &mut [u8]) -> Result<usize, Unsorted>
     ensures { (result, out.new) ≡ sorts cells.now list.now out.old }
 {
-    match book::check(cells) {
-        Checked::Refused(r) => Sorted::Refused(r),
-        Checked::Valid(d) => sort_against(cells, d, list, out),
-    }
+    let d = book::check(cells)?;
+    sort_against(cells, d, list, out)
 }

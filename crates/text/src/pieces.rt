@@ -8,13 +8,9 @@ pub fn put(word: &[u8], out: &mut [u8], at: usize) -> usize
     requires { at + length word.now ≤ length out.old }
     ensures { Put word.now out.old at out.new result }
 {
-    let n = word.len();
-    let mut i: usize = 0;
-    while i < n {
-        out[at + i] = word[i];
-        i += 1;
-    }
-    at + n
+    let end = at + word.len();
+    out[at..end].copy_from_slice(word);
+    end
 }
 
 // The decimal digits of n, at the end of the text; answers where they begin.
@@ -22,17 +18,15 @@ fn spell(n: usize, text: &mut [u8; 20]) -> usize
     requires { length text.old ≡ 20 }
     ensures { (length text.new ≡ 20) × (result ≤ 20) × (drop result text.new ≡ decimal n) }
 {
-    let mut i: usize = 20;
     let mut rest = n;
-    while i > 0 {
-        i -= 1;
+    for i in (0..20).rev() {
         text[i] = 48 + (rest % 10) as u8;
         if rest < 10 {
             return i;
         }
-        rest = rest / 10;
+        rest /= 10;
     }
-    i
+    0
 }
 
 pub fn put_number(n: usize, out: &mut [u8], at: usize) -> usize
@@ -62,12 +56,6 @@ pub fn put_next(n: usize, out: &mut [u8], at: usize) -> usize
     put_number(n, out, at + 1)
 }
 
-fn wide(x: u8) -> usize
-    ensures { result ≡ x }
-{
-    x as usize
-}
-
 // The first n symbols of a sentence, each after a space.
 pub fn put_symbols(sentence: &[u8], n: usize, out: &mut [u8], at: usize) -> usize
     requires { (n ≤ length sentence.now) × (at + 4 * n ≤ length out.old) }
@@ -75,10 +63,8 @@ pub fn put_symbols(sentence: &[u8], n: usize, out: &mut [u8], at: usize) -> usiz
     ensures upper_bound { result ≤ at + 4 * n }
 {
     let mut next = at;
-    let mut i: usize = 0;
-    while i < n {
-        next = put_next(wide(sentence[i]), out, next);
-        i += 1;
+    for symbol in &sentence[..n] {
+        next = put_next(*symbol as usize, out, next);
     }
     next
 }

@@ -1,17 +1,17 @@
 // Each answer as a kind and its values.
 ghost use Rattle.std.specs.Prelude.{[], ◌∷◌, ◌≡◌};
-ghost use Rattle.told.specs.Told.{eight, told_refusal, told_written, told_checked, kind_of, told_ended, told_ran, told_found, told_listed, told_entry, told_next, told_wrong, told_judged, told_sorted, list_of, of_list, told_joined, told_verdict};
+ghost use Rattle.told.specs.Told.{eight, told_refusal, told_written, told_checked, kind_of, told_ended, told_ran, told_found, told_listed, told_entry, told_next, told_wrong, told_judgement, told_judged, told_sorted, list_of, of_list, told_joined, told_verdict};
 ghost use Rattle.certificate.specs.Certificate.{order};
 
-use book::{Checked, Written};
+use book::Sizes;
 use certificate::{Condition, Verdict};
 use course::Judgement;
 use finder::Found;
-use joining::{Joined, Which};
-use lists::{Entry, Listing, Next, Nth};
-use machine::{Ending, Ran, Stop, stop_of};
+use joining::{Unjoined, Which};
+use lists::{Entry, Rest};
+use machine::{Ending, Stop, stop_of};
 use number::Refusal;
-use sorting::Sorted;
+use sorting::Unsorted;
 
 // A kind with at most three values.
 fn few(kind: u64, a: u64, b: u64, c: u64) -> [u64; 8]
@@ -23,24 +23,24 @@ fn few(kind: u64, a: u64, b: u64, c: u64) -> [u64; 8]
 fn tell_refusal(r: Refusal) -> [u64; 8]
     ensures { result ≡ told_refusal r }
 {
-    few(0, r.number as u64, r.place as u64, 0)
+    few(0, u64::from(r.cause.number()), r.place as u64, 0)
 }
 
-pub fn tell_written(w: Written) -> [u64; 8]
+pub fn tell_written(w: Result<usize, Refusal>) -> [u64; 8]
     ensures { result ≡ told_written w }
 {
     match w {
-        Written::Refused(r) => tell_refusal(r),
-        Written::Count(n) => few(1, n as u64, 0, 0),
+        Err(r) => tell_refusal(r),
+        Ok(n) => few(1, n as u64, 0, 0),
     }
 }
 
-pub fn tell_checked(c: Checked) -> [u64; 8]
+pub fn tell_checked(c: Result<Sizes, Refusal>) -> [u64; 8]
     ensures { result ≡ told_checked c }
 {
     match c {
-        Checked::Refused(r) => tell_refusal(r),
-        Checked::Valid(d) => [
+        Err(r) => tell_refusal(r),
+        Ok(d) => [
             1,
             d.t as u64,
             d.n as u64,
@@ -77,32 +77,32 @@ fn tell_ended(kind: u64, stop: Stop) -> [u64; 8]
     )
 }
 
-pub fn tell_ran(r: Ran) -> [u64; 8]
+pub fn tell_ran(r: Result<Ending, Refusal>) -> [u64; 8]
     ensures { result ≡ told_ran r }
 {
     match r {
-        Ran::Refused(refusal) => tell_refusal(refusal),
-        Ran::Ended(e) => tell_ended(kind_of(e), stop_of(e)),
+        Err(refusal) => tell_refusal(refusal),
+        Ok(e) => tell_ended(kind_of(e), stop_of(e)),
     }
 }
 
-pub fn tell_found(f: Found) -> [u64; 8]
+pub fn tell_found(f: Result<Found, Refusal>) -> [u64; 8]
     ensures { result ≡ told_found f }
 {
     match f {
-        Found::Refused(r) => tell_refusal(r),
-        Found::Unreached => few(1, 0, 0, 0),
-        Found::Long => few(2, 0, 0, 0),
-        Found::Sentence(n) => few(3, n as u64, 0, 0),
+        Err(r) => tell_refusal(r),
+        Ok(Found::Unreached) => few(1, 0, 0, 0),
+        Ok(Found::Long) => few(2, 0, 0, 0),
+        Ok(Found::Sentence(n)) => few(3, n as u64, 0, 0),
     }
 }
 
-pub fn tell_listed(l: Listing) -> [u64; 8]
+pub fn tell_listed(l: Result<Rest, Refusal>) -> [u64; 8]
     ensures { result ≡ told_listed l }
 {
     match l {
-        Listing::Refused(r) => tell_refusal(r),
-        Listing::Entries(rest) => few(1, rest.at as u64, rest.left as u64, 0),
+        Err(r) => tell_refusal(r),
+        Ok(rest) => few(1, rest.at as u64, rest.left as u64, 0),
     }
 }
 
@@ -122,22 +122,22 @@ fn entry_then(e: Entry, at: u64, left: u64) -> [u64; 8]
     ]
 }
 
-pub fn tell_entry(e: Nth) -> [u64; 8]
+pub fn tell_entry(e: Result<Option<Entry>, Refusal>) -> [u64; 8]
     ensures { result ≡ told_entry e }
 {
     match e {
-        Nth::Refused(r) => tell_refusal(r),
-        Nth::Found(e) => entry_then(e, 0, 0),
-        Nth::None => few(2, 0, 0, 0),
+        Err(r) => tell_refusal(r),
+        Ok(Some(e)) => entry_then(e, 0, 0),
+        Ok(None) => few(2, 0, 0, 0),
     }
 }
 
-pub fn tell_next(n: Next) -> [u64; 8]
+pub fn tell_next(n: Option<(Entry, Rest)>) -> [u64; 8]
     ensures { result ≡ told_next n }
 {
     match n {
-        Next::Found(e, rest) => entry_then(e, rest.at as u64, rest.left as u64),
-        Next::None => few(2, 0, 0, 0),
+        Some((e, rest)) => entry_then(e, rest.at as u64, rest.left as u64),
+        None => few(2, 0, 0, 0),
     }
 }
 
@@ -156,11 +156,10 @@ fn tell_wrong(i: usize, kind: u64, stop: Stop) -> [u64; 8]
     ]
 }
 
-pub fn tell_judged(j: Judgement) -> [u64; 8]
-    ensures { result ≡ told_judged j }
+fn tell_judgement(j: Judgement) -> [u64; 8]
+    ensures { result ≡ told_judgement j }
 {
     match j {
-        Judgement::Refused(r) => tell_refusal(r),
         Judgement::Complete => few(1, 0, 0, 0),
         Judgement::Uncovered(s) => few(2, s as u64, 0, 0),
         Judgement::Repeat(i) => few(3, i as u64, 0, 0),
@@ -169,13 +168,22 @@ pub fn tell_judged(j: Judgement) -> [u64; 8]
     }
 }
 
-pub fn tell_sorted(s: Sorted) -> [u64; 8]
+pub fn tell_judged(j: Result<Judgement, Refusal>) -> [u64; 8]
+    ensures { result ≡ told_judged j }
+{
+    match j {
+        Err(r) => tell_refusal(r),
+        Ok(j) => tell_judgement(j),
+    }
+}
+
+pub fn tell_sorted(s: Result<usize, Unsorted>) -> [u64; 8]
     ensures { result ≡ told_sorted s }
 {
     match s {
-        Sorted::Refused(r) => tell_refusal(r),
-        Sorted::Count(n) => few(1, n as u64, 0, 0),
-        Sorted::Fault(j) => tell_judged(j),
+        Err(Unsorted::Refused(r)) => tell_refusal(r),
+        Err(Unsorted::Fault(j)) => tell_judgement(j),
+        Ok(n) => few(1, n as u64, 0, 0),
     }
 }
 
@@ -197,14 +205,14 @@ fn of_list(which: Which, numbers: [u64; 8]) -> [u64; 8]
     all
 }
 
-pub fn tell_joined(j: Joined) -> [u64; 8]
+pub fn tell_joined(j: Result<usize, Unjoined>) -> [u64; 8]
     ensures { result ≡ told_joined j }
 {
     match j {
-        Joined::Refused(r) => tell_refusal(r),
-        Joined::ListRefused(which, r) => of_list(which, tell_refusal(r)),
-        Joined::Count(n) => few(1, n as u64, 0, 0),
-        Joined::Fault(which, fault) => of_list(which, tell_judged(fault)),
+        Err(Unjoined::Refused(r)) => tell_refusal(r),
+        Err(Unjoined::ListRefused(which, r)) => of_list(which, tell_refusal(r)),
+        Err(Unjoined::Fault(which, fault)) => of_list(which, tell_judgement(fault)),
+        Ok(n) => few(1, n as u64, 0, 0),
     }
 }
 
@@ -222,12 +230,12 @@ fn order_of(k: Condition) -> u64
     }
 }
 
-pub fn tell_verdict(v: Verdict) -> [u64; 8]
+pub fn tell_verdict(v: Result<Verdict, Refusal>) -> [u64; 8]
     ensures { result ≡ told_verdict v }
 {
     match v {
-        Verdict::Refused(r) => tell_refusal(r),
-        Verdict::Accepted => few(1, 0, 0, 0),
-        Verdict::Fault(k, i) => few(2, order_of(k), i as u64, 0),
+        Err(r) => tell_refusal(r),
+        Ok(Verdict::Accepted) => few(1, 0, 0, 0),
+        Ok(Verdict::Fault(k, i)) => few(2, order_of(k), i as u64, 0),
     }
 }

@@ -26,14 +26,12 @@ pub fn word(s: &[u8], v: u32) {
 }
 
 pub fn refusal(r: Refusal) {
-    byte(b" refused ", r.number);
+    byte(b" refused ", r.cause.number());
     label(b" place ", r.place);
 }
 
 pub fn bytes(s: &[u8]) {
-    let mut i: usize = 0;
-    while i < s.len() {
-        byte(b" ", s[i]);
-        i += 1;
+    for v in s {
+        byte(b" ", *v);
     }
 }

@@ -108,9 +108,9 @@ fn ask(
 ) {
     if check::same(word, b"find_break") {
         purlquartz_find_break(cells, s, z, work, buffer, answer);
-        return;
+    } else {
+        purlquartz_find(cells, s, z, work, buffer, answer);
     }
-    purlquartz_find(cells, s, z, work, buffer, answer);
 }
 
 fn find_in(word: &[u8], cells: &[u16], s: u16, z: u16, work: &mut [u16], buffer: &mut [u8]) {
@@ -177,9 +177,9 @@ fn ask_all(
 ) {
     if check::same(word, b"break_sentences") {
         purlquartz_break_sentences(cells, work, map, bytes, answer);
-        return;
+    } else {
+        purlquartz_sentences(cells, work, map, bytes, answer);
     }
-    purlquartz_sentences(cells, work, map, bytes, answer);
 }
 
 fn sentences_in(word: &[u8], cells: &[u16], work: &mut [u16], map: &mut [u16], bytes: &mut [u8]) {
@@ -203,65 +203,36 @@ fn sentences(word: &[u8], args: &[u32], cells: &[u16]) {
 
 // The calls that read, check, write and convert a book. Answers whether the word is one of them.
 fn on_book(word: &[u8], args: &[u32], cells: &[u16], bytes: &[u8]) -> bool {
-    if check::same(word, b"read") {
-        read(args, bytes);
-        return true;
+    match word {
+        b"read" => read(args, bytes),
+        b"check" => check(cells),
+        b"write" => write(args, cells),
+        b"to_form_1" => to_form_1(args, cells),
+        b"to_form_2" => to_form_2(args, cells),
+        _ => return false,
     }
-    if check::same(word, b"check") {
-        check(cells);
-        return true;
-    }
-    if check::same(word, b"write") {
-        write(args, cells);
-        return true;
-    }
-    if check::same(word, b"to_form_1") {
-        to_form_1(args, cells);
-        return true;
-    }
-    if check::same(word, b"to_form_2") {
-        to_form_2(args, cells);
-        return true;
-    }
-    false
+    true
 }
 
 // The calls for all pairs of a book.
 fn on_pairs(word: &[u8], args: &[u32], cells: &[u16]) -> bool {
-    if check::same(word, b"map") {
-        map(args, cells);
-        return true;
+    match word {
+        b"map" => map(args, cells),
+        b"sets" => sets(args, cells),
+        b"sentences" | b"break_sentences" => sentences(word, args, cells),
+        _ => return false,
     }
-    if check::same(word, b"sets") {
-        sets(args, cells);
-        return true;
-    }
-    if check::same(word, b"sentences") {
-        sentences(word, args, cells);
-        return true;
-    }
-    if check::same(word, b"break_sentences") {
-        sentences(word, args, cells);
-        return true;
-    }
-    false
+    true
 }
 
 // The calls that run the machine of a book or find what reaches one pair.
 fn on_machine(word: &[u8], args: &[u32], cells: &[u16], sentence: &[u8]) -> bool {
-    if check::same(word, b"run") {
-        run(args, cells, sentence);
-        return true;
+    match word {
+        b"run" => run(args, cells, sentence),
+        b"find" | b"find_break" => find(word, args, cells),
+        _ => return false,
     }
-    if check::same(word, b"find") {
-        find(word, args, cells);
-        return true;
-    }
-    if check::same(word, b"find_break") {
-        find(word, args, cells);
-        return true;
-    }
-    false
+    true
 }
 
 pub fn call(word: &[u8], args: &[u32], cells: &[u16], bytes: &[u8]) {

@@ -62,11 +62,8 @@ fn pop_at(
     if w > r {
         return;
     }
-    match action_at(cells, d, q, c) {
-        Action::Reduce(p) => pop(cells, d, at, m, p as usize, c, w, events),
-        Action::Error => {}
-        Action::Accept => {}
-        Action::Shift(_) => {}
+    if let Action::Reduce(p) = action_at(cells, d, q, c) {
+        pop(cells, d, at, m, p as usize, c, w, events);
     }
 }
 
@@ -89,13 +86,10 @@ fn pop_state(
     ensures events_len_2 { length events.new ≡ 33824 }
     ensures table_step { TableStep plain (ReducesState plain d (tables_of cells.now) at m r v (value_in plain values.now on.now) q) (event_in plain events.old) (event_in plain events.new) }
 {
-    let t = d.t;
     let row = q * 32;
-    let mut c: usize = 0;
-    while c < t {
+    for c in 0..d.t {
         let w = add(v, values[row + c]);
         pop_at(cells, d, at, m, r, q, c, w, events);
-        c += 1;
     }
 }
 
@@ -116,12 +110,9 @@ fn pop_layer(
     ensures events_len_2 { length events.new ≡ 33824 }
     ensures table_step { TableStep plain (ReducesLayer plain d (tables_of cells.now) at m r v (value_in plain values.now on.now)) (event_in plain events.old) (event_in plain events.new) }
 {
-    let n = count_on(on);
-    let mut i: usize = 0;
-    while i < n {
+    for i in 0..count_on(on) {
         let q = state_on(on, i);
         pop_state(cells, d, at, m, r, v, values, on, q, events);
-        i += 1;
     }
 }
 
@@ -133,7 +124,7 @@ fn rest(r: u16, v: u16) -> u16
     if r >= LONG {
         return LONG;
     }
-    if v < r { r - v } else { 0 }
+    r.saturating_sub(v)
 }
 
 // All that is popped after more than m transitions, where the layer of m is given: each layer is made in the place of the one before

@@ -1,5 +1,5 @@
 -- The lines marked ★ hold: the words up to the answer's length are run one by one, and no transition leads to an unreached pair. Assumes nothing.
-use Rattle.std.specs.Prelude.{Bool, not, ◌&&◌, ◌||◌, ◌⊎◌, ◌≢◌, ◌≡◌, ltb, leb, eqb}
+use Rattle.std.specs.Prelude.{Ok, Err, Bool, not, ◌&&◌, ◌||◌, ◌⊎◌, ◌≢◌, ◌≡◌, ltb, leb, eqb}
 use Rattle.std.proofs.Math.Bool.{true, false, false≢true}
 use mathlib.Core.List.{List, [], ◌∷◌, ◌++◌}
 use Rattle.std.proofs.Math.Logic.{inl, inr, ⊎_elim, by_cases}
@@ -10,17 +10,16 @@ use Rattle.std.proofs.Math.Decide.{dec_lt, ℕ_discrete}
 use native.Mathlib.Omega.{arith}
 use Rattle.std.proofs.Math.ListN.{length}
 use borrow.Author.Tests.{ltb-true, leb-true, eqb-true, eq-eqb}
-use Rattle.number.specs.Number.{number_at, first, second, third, value, refusal}
-use Rattle.number.specs.declared.Number.{Number}
-use Rattle.number.specs.declared.Number.TheVariants.{Value, Refused}
+use Rattle.number.specs.Number.{Number, number_at, first, second, third, value, refusal}
+use Rattle.number.specs.Cause.{number_of}
+use Rattle.number.specs.CauseLaws.{number-one}
 use Rattle.book.specs.Action.{action_of}
 use Rattle.book.specs.Book.{book_in, row, parts_in, cell_at, of_bytes, of_cells, checked}
-use Rattle.book.specs.Range.{fault, fault_number, fits, allowed}
+use Rattle.book.specs.Range.{fault, fault_cause, fits, allowed}
 use Rattle.book.specs.Tables.{Tables, sizes_of, tables_of, rank_of}
 use Rattle.book.proofs.TablesLaws.{act-range}
 use Rattle.book.specs.declared.Action.{Action}
 use Rattle.book.specs.declared.Action.TheVariants.{Error, Accept, Shift, Reduce}
-use Rattle.book.specs.declared.Checked.TheVariants.{Valid}
 use Rattle.book.specs.declared.Sizes.{Sizes}
 use Rattle.machine.specs.Machine.{Move, accepts, fails, breaks, shifts, reduces, next, shift, reduce, Steps, done, then, Terminals, none, more, Reaches}
 use Rattle.machine.specs.MachineLaws.{clash}
@@ -274,21 +273,21 @@ unreached-answer cells s z e w r =
 
 -- ---- numbers
 same? : Number → Number → Bool
-same? (Value n c) (Value m d) = eqb n m && eqb c.at d.at
-same? (Value n c) (Refused r) = false
-same? (Refused r) (Value m d) = false
-same? (Refused r) (Refused q) = eqb r.number q.number && eqb r.place q.place
+same? (Ok (n, c)) (Ok (m, d)) = eqb n m && eqb c.at d.at
+same? (Ok (n, c)) (Err r) = false
+same? (Err r) (Ok (m, d)) = false
+same? (Err r) (Err q) = eqb (number_of r.cause) (number_of q.cause) && eqb r.place q.place
 
 same : (x y : Number) → same? x y ≡ true → x ≡ y
 unfolding same?
-same (Value n c) (Value m d) e =
+same (Ok (n, c)) (Ok (m, d)) e =
     let (i, j) = both (eqb n m) (eqb c.at d.at) e in
     ap₂ value (eqb-true n m i) (eqb-true c.at d.at j)
-same (Value n c) (Refused r) e = absurd (false≢true e)
-same (Refused r) (Value m d) e = absurd (false≢true e)
-same (Refused r) (Refused q) e =
-    let (i, j) = both (eqb r.number q.number) (eqb r.place q.place) e in
-    ap₂ refusal (eqb-true r.number q.number i) (eqb-true r.place q.place j)
+same (Ok (n, c)) (Err r) e = absurd (false≢true e)
+same (Err r) (Ok (m, d)) e = absurd (false≢true e)
+same (Err r) (Err q) e =
+    let (i, j) = both (eqb (number_of r.cause) (number_of q.cause)) (eqb r.place q.place) e in
+    ap₂ refusal (number-one r.cause q.cause (eqb-true (number_of r.cause) (number_of q.cause) i)) (eqb-true r.place q.place j)
 
 -- ---- the table
 right? : Line → Bool
@@ -320,16 +319,16 @@ stars-hold = all_right stars refl
 
 -- ---- the small books are books, in cells and, as each number is below 128, in bytes
 abbrev pub Both : List ℕ → Sizes → Type 0
-Both book d = (checked (of_cells book) ≡ Valid d) × (checked (of_bytes book) ≡ Valid d)
+Both book d = (checked (of_cells book) ≡ Ok d) × (checked (of_bytes book) ≡ Ok d)
 
 pub bracket-accepted : Both bracket (record { form = 1; t = 4; n = 1; s = 6; p = 2 }) × (length bracket ≡ 39)
-unfolding bracket of_cells of_bytes book_in row parts_in cell_at number_at first fault fault_number fits allowed action_of sizes_of
+unfolding bracket of_cells of_bytes book_in row parts_in cell_at number_at first fault fault_cause fits allowed action_of sizes_of
 bracket-accepted = ((refl, refl), refl)
 
 pub double-accepted : Both double (record { form = 1; t = 3; n = 2; s = 8; p = 4 }) × (length double ≡ 53)
-unfolding double of_cells of_bytes book_in row parts_in cell_at number_at first fault fault_number fits allowed action_of sizes_of
+unfolding double of_cells of_bytes book_in row parts_in cell_at number_at first fault fault_cause fits allowed action_of sizes_of
 double-accepted = ((refl, refl), refl)
 
 pub ranked-accepted : Both double_ranked (record { form = 2; t = 3; n = 2; s = 8; p = 4 }) × (length double_ranked ≡ 56)
-unfolding double_ranked of_cells of_bytes book_in row parts_in cell_at number_at first fault fault_number fits allowed action_of sizes_of
+unfolding double_ranked of_cells of_bytes book_in row parts_in cell_at number_at first fault fault_cause fits allowed action_of sizes_of
 ranked-accepted = ((refl, refl), refl)

@@ -19,14 +19,14 @@ pub const UNREACHED: u16 = 1002;
 pub fn least(x: u16, y: u16) -> u16
     ensures { result ≡ min x y }
 {
-    if x < y { x } else { y }
+    x.min(y)
 }
 
 // The larger of two counts.
 pub fn most(x: usize, y: usize) -> usize
     ensures { result ≡ max x y }
 {
-    if x < y { y } else { x }
+    x.max(y)
 }
 
 // The capped sum of two costs.
@@ -47,9 +47,5 @@ pub fn fill(cells: &mut [u16], start: usize, n: usize, v: u16)
     requires { start + n ≤ length cells.old }
     ensures { cells.new ≡ filled cells.old start n v }
 {
-    let mut i: usize = 0;
-    while i < n {
-        cells[start + i] = v;
-        i += 1;
-    }
+    cells[start..start + n].fill(v);
 }

@@ -85,9 +85,12 @@ module _ (B : Tables) (z s taken : ℕ) (st : List ℕ) where
   comes-now zero e = e
   comes-now (suc k) e = rw (comes, e)
 
-  pub comes-none : on_top s st ≡ false → comes B z s taken 0 st ≡ false
+  pub comes-last : comes B z s taken 0 st ≡ on_top s st
   unfolding comes
-  comes-none e = e
+  comes-last = refl
+
+  pub comes-none : on_top s st ≡ false → comes B z s taken 0 st ≡ false
+  comes-none e = comes-last ∙ e
 
   pub comes-more : (k : ℕ) → on_top s st ≡ false
       → comes B z s taken (suc k) st ≡ elim (onward (next B st z)) [ none ↦ false | some new ↦ comes B z s taken k new ]

@@ -17,13 +17,9 @@ fn comes(cells: &[u16], d: Sizes, stack: &mut [u16], depth: usize, z: u16, s: u1
     ensures { (taken : ℕ) → result ≡ comes (tables_of cells.now) z s taken 4096 (stack_of stack.old depth) }
 {
     let mut n = depth;
-    let mut left = REDUCTIONS;
-    loop {
+    for _ in 0..REDUCTIONS {
         if stack[n - 1] == s {
             return true;
-        }
-        if left == 0 {
-            return false;
         }
         match look(cells, d, stack, n, z) {
             Seen::Reduce(m, g) => {
@@ -32,11 +28,11 @@ fn comes(cells: &[u16], d: Sizes, stack: &mut [u16], depth: usize, z: u16, s: u1
                 }
                 stack[m] = g;
                 n = m + 1;
-                left -= 1;
             }
             _ => return false,
         }
     }
+    stack[n - 1] == s
 }
 
 // Whether the run of the sentence and z, on plain cells, has at some moment taken in all of the sentence, with s on top. Overwrites the
@@ -51,14 +47,10 @@ pub fn reaches(cells: &[u16], d: Sizes, sentence: &[u8], z: u16, s: u16, stack: 
 {
     stack[0] = 0;
     let mut depth: usize = 1;
-    let mut taken: usize = 0;
-    while taken < sentence.len() {
-        match take_in(cells, d, stack, depth, sentence[taken] as u16, taken) {
+    for (taken, a) in sentence.iter().enumerate() {
+        match take_in(cells, d, stack, depth, *a as u16, taken) {
             Entered::Ended(_, _) => return false,
-            Entered::Depth(n) => {
-                depth = n;
-                taken += 1;
-            }
+            Entered::Depth(n) => depth = n,
         }
     }
     comes(cells, d, stack, depth, z, s)

@@ -1,4 +1,5 @@
 -- `number::from_second` meets its contract: each test picks a case of `second`. Assumes nothing.
+use Rattle.std.proofs.Common.{ap, Err}
 use native.Mathlib.Nat.{add_assoc}
 use borrow.Author.Tests.{lt-ltb, le-ltb, eq-eqb, ne_eqb}
 use lib.ListN.{drop_of_length-le}
@@ -8,12 +9,12 @@ use Rattle.number.proofs.from_second.Goals as goal
 
 pub returns-then-bytes-next : goal.returns-then-bytes-next
 unfolding second
-returns-then-bytes-next c = rw (drop_of_length-le _ c.if-bytes-next.true) c.refused.ensures
+returns-then-bytes-next c = rw (drop_of_length-le _ c.if-bytes-next.true) (ap Err c.at.ensures)
 
 pub returns-then-b-eq0 : goal.returns-then-b-eq0
 unfolding second
 returns-then-b-eq0 c =
-    rw (byte_at _ _ c.if-bytes-next.false, eq-eqb _ _ c.if-b-eq0.true) c.refused-then-b-eq0.ensures
+    rw (byte_at _ _ c.if-bytes-next.false, eq-eqb _ _ c.if-b-eq0.true) (ap Err c.at-then-b-eq0.ensures)
 
 pub returns-then-b-lt128 : goal.returns-then-b-lt128
 unfolding second

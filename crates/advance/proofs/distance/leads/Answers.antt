@@ -1,10 +1,10 @@
 -- `advance::distance::leads` meets its contract. Assumes nothing.
 use mathlib.Core.Bool.{false≢true}
 use mathlib.Core.Path.{◌≡◌, ap, sym, ◌∙◌}
-use Prim.Native.Nat.{ℕ, ◌+◌, ◌-◌, ◌≤◌, ◌<◌}
+use Prim.Native.Nat.{ℕ, ◌+◌, ◌-◌}
 use native.Mathlib.Omega.{arith}
 use borrow.Author.Tests.{eqb-true, eqb-false}
-use lib.ListN.{length, get_or}
+use lib.ListN.{get_or}
 use Rattle.layers.specs.Crossing.{claim_in}
 use Rattle.layers.specs.CrossingLaws.{row_fits, goto-least}
 use Rattle.advance.proofs.distance.leads.Goals as goal
@@ -42,15 +42,12 @@ returns c =
 
 pub overflow_add-row : goal.overflow_add-row
 overflow_add-row c =
-    let row-here : (c.crossing_row-row.result + c.args.d.t ≤ length c.args.table.now) × (c.args.a < c.args.d.t) = (let p = c.requires in (row_fits p.fitted p.a_lt_t.1 p.a_lt_t.2 p.a_lt_t.0 c.crossing_row-row.ensures, p.a_lt_t.0)) in
-    omega (arith, row-here)
+    omega (arith, row_fits c.requires.fitted c.requires.a_lt_t.1 c.requires.a_lt_t.2 c.requires.a_lt_t.0 c.crossing_row-row.ensures, c.requires.a_lt_t.0)
 
 pub offset_bounds-table-row : goal.offset_bounds-table-row
 offset_bounds-table-row c =
-    let row-here : (c.crossing_row-row.result + c.args.d.t ≤ length c.args.table.now) × (c.args.a < c.args.d.t) = (let p = c.requires in (row_fits p.fitted p.a_lt_t.1 p.a_lt_t.2 p.a_lt_t.0 c.crossing_row-row.ensures, p.a_lt_t.0)) in
-    omega (arith, row-here)
+    omega (arith, row_fits c.requires.fitted c.requires.a_lt_t.1 c.requires.a_lt_t.2 c.requires.a_lt_t.0 c.crossing_row-row.ensures, c.requires.a_lt_t.0)
 
 pub bounds-table-row : goal.bounds-table-row
 bounds-table-row c =
-    let row-here : (c.crossing_row-row.result + c.args.d.t ≤ length c.args.table.now) × (c.args.a < c.args.d.t) = (let p = c.requires in (row_fits p.fitted p.a_lt_t.1 p.a_lt_t.2 p.a_lt_t.0 c.crossing_row-row.ensures, p.a_lt_t.0)) in
-    omega (arith, row-here)
+    omega (arith, row_fits c.requires.fitted c.requires.a_lt_t.1 c.requires.a_lt_t.2 c.requires.a_lt_t.0 c.crossing_row-row.ensures, c.requires.a_lt_t.0)

@@ -1,6 +1,5 @@
 -- `advance::distance::nearest` meets its contract. Assumes nothing.
 use Rattle.advance.specs.RoundLaws.{rounds-none, rounds-more}
-use Prim.Native.Nat.{◌-◌}
 use native.Mathlib.Omega.{arith}
 use Rattle.advance.proofs.distance.nearest.Goals as goal
 

@@ -21,16 +21,16 @@ returns-then-rows-q-eq0 c =
       turn = kept (λ e X. skipped-leads (terminal p.usable.fitted.holds p.a_lt_t.0) p.usable.skips c.if-rows-q-eq0.true);
     }
 
-pub returns-then-x-n : goal.returns-then-x-n
-returns-then-x-n c =
+pub returns-then-x-d : goal.returns-then-x-d
+returns-then-x-d c =
     record {
       upper_bound = omega arith;
-      turn = kept (λ e X a. c.toward-x.ensures.before X (omega (arith, (goto-some c.requires.usable.fitted.holds c.args.q X a.target a.transition).1, c.if-x-n.true)) a);
+      turn = kept (λ e X a. c.toward-x.ensures.before X (omega (arith, (goto-some c.requires.usable.fitted.holds c.args.q X a.target a.transition).1, c.if-x-d.true)) a);
     }
 
 pub returns : goal.returns
 returns c =
     record {
       upper_bound = omega arith;
-      turn = given c.if-to-q.false (c.toward-x.ensures.found (omega (arith, c.toward-x.ensures.within, c.if-x-n.false)));
+      turn = given c.if-to-q.false (c.toward-x.ensures.found (omega (arith, c.toward-x.ensures.within, c.if-x-d.false)));
     }

@@ -1,8 +1,6 @@
 -- `advance::push::push_to_shift` meets its contract. Assumes nothing.
 use mathlib.Core.Path.{refl}
-use Prim.Native.Nat.{◌<◌}
 use native.Mathlib.Omega.{arith}
-use lib.ListN.{length}
 use Rattle.book.proofs.TablesLaws.{in-range}
 use Rattle.layers.specs.CrossingLaws.{terminals-are, states-are}
 use Rattle.advance.specs.NearestLaws.{near-low}
@@ -48,30 +46,24 @@ returns c =
 
 pub offset_bounds-stack-top : goal.offset_bounds-stack-top
 offset_bounds-stack-top c =
-    let room-here : c.loop-g.top < length c.loop-g.stack = omega (arith, c.loop-g.invariant.room, c.loop-g.invariant.size) in
-    omega (arith, room-here)
+    omega (arith, c.loop-g.invariant.room, c.loop-g.invariant.size)
 
 pub bounds-stack-top : goal.bounds-stack-top
 bounds-stack-top c =
-    let room-here : c.loop-g.top < length c.loop-g.stack = omega (arith, c.loop-g.invariant.room, c.loop-g.invariant.size) in
-    omega (arith, room-here)
+    omega (arith, c.loop-g.invariant.room, c.loop-g.invariant.size)
 
 pub overflow_add-top : goal.overflow_add-top
 overflow_add-top c =
-    let room-here : c.loop-g.top < length c.loop-g.stack = omega (arith, c.loop-g.invariant.room, c.loop-g.invariant.size) in
-    omega (arith, room-here)
+    omega (arith, c.loop-g.invariant.room, c.loop-g.invariant.size)
 
 pub offset_bounds-stack-top-2 : goal.offset_bounds-stack-top-2
 offset_bounds-stack-top-2 c =
-    let room-here : c.loop-g.top < length c.loop-g.stack = omega (arith, c.loop-g.invariant.room, c.loop-g.invariant.size) in
-    omega (arith, room-here)
+    omega (arith, c.loop-g.invariant.room, c.loop-g.invariant.size)
 
 pub bounds-stack-top-2 : goal.bounds-stack-top-2
 bounds-stack-top-2 c =
-    let room-here : c.loop-g.top < length c.loop-g.stack = omega (arith, c.loop-g.invariant.room, c.loop-g.invariant.size) in
-    omega (arith, room-here)
+    omega (arith, c.loop-g.invariant.room, c.loop-g.invariant.size)
 
 pub overflow_add-result : goal.overflow_add-result
 overflow_add-result c =
-    let room-here : c.loop-g.top < length c.loop-g.stack = omega (arith, c.loop-g.invariant.room, c.loop-g.invariant.size) in
-    omega (arith, room-here)
+    omega (arith, c.loop-g.invariant.room, c.loop-g.invariant.size)

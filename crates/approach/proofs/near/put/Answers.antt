@@ -1,18 +1,18 @@
 -- `approach::near::put` meets its contract. Assumes nothing.
-use native.Mathlib.Nat.{le_antisymm}
-use native.Mathlib.Numerals.{add-one}
+use mathlib.Core.Path.{◌≡◌, ◌∙◌, ap}
+use mathlib.Core.List.{◌++◌}
 use native.Mathlib.Omega.{arith}
-use Prim.Native.Nat.{◌-◌}
-use lib.ListN.{length-set}
-use lib.Seq.{paste-zero, paste-suc}
+use Prim.Native.Nat.{◌+◌}
+use lib.ListN.{length, take, drop}
+use lib.Seq.{take_all, length-take-le}
+use Rattle.std.proofs.lemmas.Slice.{put_mid-paste}
 use Rattle.approach.proofs.near.put.Goals as goal
 
-pub loop-k-init : goal.loop-k-init
-loop-k-init c = (omega arith, c.requires.2, paste-zero c.args.due.now c.args.at c.args.layer.now)
-
-pub loop-k-preserved : goal.loop-k-preserved
-loop-k-preserved c =
-    (omega arith, simp length-set c.loop-k.invariant.1, rw (c.loop-k.invariant.2, add-one) (paste-suc c.args.due.now c.args.at c.args.layer.now c.loop-k.k 0 (omega arith) (omega arith)))
-
 pub returns : goal.returns
-returns c = rw (le_antisymm c.loop-k.invariant.0 c.loop-k-test.false) at c.loop-k.invariant.2
+returns c =
+    let due = c.args.due.now in
+    let at = c.args.at in
+    let n = c.args.n in
+    let part = take n c.args.layer.now in
+    let long : length part ≡ n = length-take-le n c.args.layer.now (omega arith) in
+    put_mid-paste at _ due _ part n c.copy_from_slice.ensures.after (omega arith) (omega arith) ∙ ap (λ l. take at due ++ l ++ drop (at + n) due) (take_all n part (omega arith))

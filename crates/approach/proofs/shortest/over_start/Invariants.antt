@@ -1,10 +1,6 @@
 use mathlib.Core.Path.{◌≡◌}
-use Prim.Native.Nat.{◌-◌, ◌≤◌}
 use Rattle.approach.specs.Shortest.{least_over}
 use Rattle.approach.proofs.shortest.over_start.Given as goal
 
 abbrev pub invariant-loop-m : goal.invariant-loop-m
-invariant-loop-m l = (l.r ≡ least_over l.togo l.due l.m l.a) × (l.m ≤ l.len)
-
-abbrev pub decreases-loop-m : goal.decreases-loop-m
-decreases-loop-m l = l.len - l.m
+invariant-loop-m l = l.r ≡ least_over l.togo l.due l.m l.a

@@ -6,7 +6,4 @@ use Rattle.book.specs.BytesLaws.{Decoded}
 use Rattle.book.proofs.bytes.decode_row.Given as goal
 
 abbrev pub invariant-loop-i : goal.invariant-loop-i
-invariant-loop-i l = (l.i ≤ l.n) × (length l.cells ≡ length l.initial.cells) × Decoded (number_at l.bytes) l.n l.initial.cells l.cells l.i l.at
-
-abbrev pub decreases-loop-i : goal.decreases-loop-i
-decreases-loop-i l = l.n - l.i
+invariant-loop-i l = (length l.cells ≡ length l.initial.cells) × Decoded (number_at l.bytes) l.n l.initial.cells l.cells l.i l.cursor.at

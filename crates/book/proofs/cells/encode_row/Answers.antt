@@ -6,19 +6,19 @@ use Rattle.book.specs.BytesLaws.{encoded-none, encoded-fits, encoded-more, encod
 use borrow.Author.Rules.{rules}
 use Rattle.book.proofs.cells.encode_row.Goals as goal
 
-pub loop-i-init : goal.loop-i-init
-loop-i-init c = (omega arith, search rules, encoded-none)
+pub loop-cell-init : goal.loop-cell-init
+loop-cell-init c = (omega arith, search rules, encoded-none)
 
 pub write-at-requires : goal.write-at-requires
 write-at-requires c =
     record {
-      n_bound = omega (arith, c.shared_slice_known-in-loop-i-1.given c.loop-i.i);
-      n_in_bounds = rw c.loop-i.invariant.1 (encoded-fits c.loop-i.invariant.2 c.loop-i-test.true c.requires);
+      n_bound = omega (arith, c.shared_slice_known-1.given c.loop-cell.cell-index);
+      n_in_bounds = rw c.loop-cell.invariant.1 (encoded-fits c.loop-cell.invariant.2 c.loop-cell-test.true c.requires);
     }
 
-pub loop-i-preserved : goal.loop-i-preserved
-loop-i-preserved c =
-    (omega arith, c.write-at.auto.bytes ∙ c.loop-i.invariant.1, encoded-more c.loop-i.invariant.2 c.loop-i-test.true c.requires c.write-at.ensures.0 c.write-at.ensures.1)
+pub loop-cell-preserved : goal.loop-cell-preserved
+loop-cell-preserved c =
+    (omega arith, c.write-at.auto.bytes ∙ c.loop-cell.invariant.1, encoded-more c.loop-cell.invariant.2 c.loop-cell-test.true c.requires c.write-at.ensures.0 c.write-at.ensures.1)
 
 pub returns : goal.returns
-returns c = encoded-done c.loop-i.invariant.2 c.loop-i-test.false
+returns c = encoded-done c.loop-cell.invariant.2 c.loop-cell-test.false

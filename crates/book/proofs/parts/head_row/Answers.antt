@@ -3,9 +3,6 @@ use Rattle.book.specs.RangeLaws.{few-none}
 use Rattle.book.specs.Tables.{sizes_of}
 use Rattle.book.proofs.parts.head_row.Goals as goal
 
-pub part_row-requires : goal.part_row-requires
-part_row-requires c = few-none
-
 pub returns : goal.returns
 unfolding sizes_of
 returns c = c.part_row.ensures

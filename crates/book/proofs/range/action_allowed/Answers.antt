@@ -8,9 +8,6 @@ use Rattle.book.proofs.range.action_allowed.Goals as goal
 pub returns-then-v-gt65535 : goal.returns-then-v-gt65535
 returns-then-v-gt65535 c = action-over _ c.requires _ _ (omega (arith, c.if-v-gt65535.true))
 
-pub overflow_cast-v : goal.overflow_cast-v
-overflow_cast-v c = omega (arith, c.if-v-gt65535.false)
-
 pub returns-then-t-eq0 : goal.returns-then-t-eq0
 unfolding allowed
 returns-then-t-eq0 c = rw (← c.decode.ensures, c.in-Shift.is, eq-eqb _ _ c.if-t-eq0.true)

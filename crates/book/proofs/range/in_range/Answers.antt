@@ -5,12 +5,6 @@ use Rattle.book.specs.Range.{fits}
 use Rattle.book.specs.RangeLaws.{factor-some}
 use Rattle.book.proofs.range.in_range.Goals as goal
 
-pub offset_bounds-i : goal.offset_bounds-i
-offset_bounds-i c = omega (arith, rw c.in-Head.is at c.requires.0)
-
-pub offset_bounds-i-then-i-v : goal.offset_bounds-i-then-i-v
-offset_bounds-i-then-i-v c = omega (arith, rw c.in-Head.is at c.requires.0)
-
 pub returns-then-i-eq0 : goal.returns-then-i-eq0
 unfolding fits
 returns-then-i-eq0 c = rw (c.in-Productions.is, eq-eqb _ _ c.if-i-eq0.true)
@@ -18,12 +12,6 @@ returns-then-i-eq0 c = rw (c.in-Productions.is, eq-eqb _ _ c.if-i-eq0.true)
 pub returns-then-v-d : goal.returns-then-v-d
 unfolding fits
 returns-then-v-d c = rw (c.in-Ranks.is, le-ltb _ _ c.if-v-d.true)
-
-pub contains-requires : goal.contains-requires
-contains-requires c = omega (arith, c.if-v-d.false, c.requires.1.terminals)
-
-pub nonzero_rem-i-in-Actions : goal.nonzero_rem-i-in-Actions
-nonzero_rem-i-in-Actions c = factor-some _ c.args.d.s _ (rw c.in-Actions.is at c.requires.0)
 
 pub returns-then-i-v : goal.returns-then-i-v
 unfolding fits

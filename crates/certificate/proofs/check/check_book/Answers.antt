@@ -1,13 +1,6 @@
 -- `certificate::check::check_book` meets its contract: the plain cells have the book's tables. Assumes nothing.
-use mathlib.Core.Path.{sym}
-use native.Mathlib.Omega.{arith}
-use lib.Seq.{length-take-le}
 use Rattle.certificate.proofs.CheckingLaws.{lent-plain, claims-checked}
 use Rattle.certificate.proofs.check.check_book.Goals as goal
-
-pub slice_bounds-check_claims-end : goal.slice_bounds-check_claims-end
-slice_bounds-check_claims-end c =
-    sym (length-take-le _ _ (omega (arith, c.plain_cells-n.ensures.1, c.plain_cells-n.auto.to)))
 
 pub check_claims-requires : goal.check_claims-requires
 check_claims-requires c =

@@ -1,10 +1,10 @@
 -- `certificate::check::check_certificate` meets its contract: the book first. Assumes nothing.
-use mathlib.Core.Path.{sym, ◌∙◌}
+use Rattle.std.proofs.Common.{sym}
+use Rattle.std.proofs.lemmas.Result.{err_from_is_err_and}
 use Rattle.certificate.proofs.CheckingLaws.{book-refused}
 use Rattle.certificate.proofs.check.check_certificate.Goals as goal
 
-pub check_against-requires : goal.check_against-requires
-check_against-requires c = sym c.check.ensures ∙ c.in-Valid.is
-
-pub returns-in-Refused : goal.returns-in-Refused
-returns-in-Refused c = book-refused _ _ _ _ _ (sym c.check.ensures ∙ c.in-Refused.is)
+pub returns-in_err-d : goal.returns-in_err-d
+returns-in_err-d c =
+    let p = err_from_is_err_and c.from_residual.result c.from_residual.ensures.1 in
+    rw (p.1, p.2) (book-refused _ _ _ _ _ (sym c.in_err-d.ensures))

@@ -1,18 +1,10 @@
 -- `certificate::check::check_rows` meets its contract. Assumes nothing.
-use mathlib.Core.Path.{sym, ◌∙◌}
+use Rattle.std.proofs.Common.{sym}
+use Rattle.std.proofs.lemmas.Result.{err_from_is_err_and}
 use Rattle.certificate.proofs.CheckingLaws.{sentences-refused}
-use Rattle.certificate.proofs.WrongLaws.{ended-admitted}
 use Rattle.certificate.proofs.check.check_rows.Goals as goal
 
-pub check_book-requires : goal.check_book-requires
-check_book-requires c =
-    let s = c in
-    record {
-      accepted = c.requires.accepted;
-      rows_fit = c.requires.rows_fit;
-      admitted = ended-admitted _ _ _ (sym c.check_sentences.ensures ∙ c.in-Value.is);
-    }
-
-pub returns-in-Refused : goal.returns-in-Refused
-returns-in-Refused c =
-    let s = c in sentences-refused _ _ _ _ _ c.requires.accepted c.requires.rows_fit _ (sym c.check_sentences.ensures ∙ c.in-Refused.is)
+pub returns-in_err-check_sentences : goal.returns-in_err-check_sentences
+returns-in_err-check_sentences c =
+    let p = err_from_is_err_and c.from_residual.result c.from_residual.ensures.1 in
+    rw (p.1, p.2) (sentences-refused _ _ _ _ _ c.requires.accepted c.requires.rows_fit _ (sym c.in_err-check_sentences.ensures))

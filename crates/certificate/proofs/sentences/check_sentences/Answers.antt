@@ -1,17 +1,17 @@
 -- `certificate::sentences::check_sentences` meets its contract: nothing may follow the sentences. Assumes nothing.
-use mathlib.Core.Path.{◌∙◌}
-use borrow.Author.Tests.{lt-ltb, le-ltb}
-use Rattle.certificate.specs.SentencesLaws.{sentences-closing}
+use Rattle.std.proofs.lemmas.Result.{err_from_is_err_and}
+use Rattle.certificate.specs.SentencesLaws.{sentences-closing, closing-stops, closing-passes}
 use Rattle.certificate.proofs.sentences.check_sentences.Goals as goal
 
-pub returns-in_default : goal.returns-in_default
-returns-in_default c =
-    let e = c.in_default.is in e ∙ rw (sentences-closing, ← c.sentence_row-last.ensures, e)
+pub returns-in_err-at : goal.returns-in_err-at
+returns-in_err-at c =
+    let p = err_from_is_err_and c.from_residual.result c.from_residual.ensures.1 in
+    rw (p.1, p.2) (rw (sentences-closing, ← c.in_err-at.ensures))
 
-pub returns-then-at-bytes : goal.returns-then-at-bytes
-returns-then-at-bytes c =
-    rw (sentences-closing, ← c.sentence_row-last.ensures, c.in-Value.is, lt-ltb _ _ c.if-at-bytes.true)
+pub returns-in_err-refuse_if : goal.returns-in_err-refuse_if
+returns-in_err-refuse_if c =
+    let p = err_from_is_err_and c.from_residual-in_err-refuse_if.result c.from_residual-in_err-refuse_if.ensures.1 in
+    rw (p.1, p.2) (rw (sentences-closing, ← c.in_ok-at.ensures) (closing-stops _ _ c.in_err-refuse_if.ensures))
 
 pub returns : goal.returns
-returns c =
-    rw (sentences-closing, ← c.sentence_row-last.ensures, c.in-Value.is, le-ltb _ _ c.if-at-bytes.false)
+returns c = rw (sentences-closing, ← c.in_ok-at.ensures) (closing-passes _ _ c.in_ok-refuse_if.ensures)

@@ -1,13 +1,14 @@
 -- `certificate::sentences::sentence_at` meets its contract: the length, then the symbols. Assumes nothing.
-use mathlib.Core.Path.{◌∙◌}
+use Rattle.std.proofs.lemmas.Result.{err_from_is_err_and}
 use Rattle.certificate.specs.Sentences.{sentence_at}
 use Rattle.certificate.proofs.sentences.sentence_at.Goals as goal
 
-pub returns-in_default : goal.returns-in_default
+pub returns-in_err-len : goal.returns-in_err-len
 unfolding sentence_at
-returns-in_default c =
-    let e = c.in_default.is in e ∙ rw (← c.read.ensures, ← c.admit-found.ensures, e)
+returns-in_err-len c =
+    let p = err_from_is_err_and c.from_residual.result c.from_residual.ensures.1 in
+    rw (p.1, p.2) (rw (← c.read.ensures, ← c.in_err-len.ensures))
 
 pub returns : goal.returns
 unfolding sentence_at
-returns c = rw (← c.read.ensures, ← c.admit-found.ensures, c.in-Value.is) c.symbol_row.ensures
+returns c = rw (← c.read.ensures, ← c.in_ok-len.ensures) c.symbol_row.ensures

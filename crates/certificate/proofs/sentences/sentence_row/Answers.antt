@@ -1,27 +1,21 @@
 -- `certificate::sentences::sentence_row` meets its contract: the pairs are followed one by one. Assumes nothing.
-use mathlib.Core.Path.{sym, ◌∙◌}
-use Prim.Native.Nat.{◌-◌}
-use native.Mathlib.Omega.{arith}
-use Rattle.certificate.specs.SentencesLaws.{passed_none, passed-some, passed-long, passed-stop, passed-done}
-use borrow.Author.Rules.{rules}
+use Rattle.std.proofs.Common.{sym}
+use Rattle.std.proofs.lemmas.Result.{err_from_is_err_and}
+use Rattle.certificate.specs.SentencesLaws.{passed-some, passed-long, passed-stop, passed-done}
 use Rattle.certificate.proofs.sentences.sentence_row.Goals as goal
-use Rattle.certificate.proofs.sentences.sentence_row.Goals.{then-pairs-k-le-LIMIT+in-Value, else-pairs-k-le-LIMIT}
+use Rattle.certificate.proofs.sentences.sentence_row.Goals.{then-claim-le-LIMIT+in_ok-at, else-claim-le-LIMIT}
 
-pub loop-k-init : goal.loop-k-init
-loop-k-init c = (omega arith, passed_none)
+pub returns-in_err-at : goal.returns-in_err-at
+returns-in_err-at c =
+    let p = err_from_is_err_and c.from_residual.result c.from_residual.ensures.1 in
+    rw (p.1, p.2) (passed-stop c.loop-claim.invariant c.loop-claim-test.true c.if-claim-le-LIMIT.true (sym c.in_err-at.ensures))
 
-pub returns-in_default : goal.returns-in_default
-returns-in_default c =
-    let e = c.in_default.is in e ∙ passed-stop c.loop-k.invariant.1 c.loop-k-test.true c.if-pairs-k-le-LIMIT.true (sym c.sentence_at-found.ensures ∙ e)
-
-pub loop-k-preserved : goal.loop-k-preserved
-loop-k-preserved c = (
-  search rules,
-  elim c.if-pairs-k-le-LIMIT.branch [
-    | then-pairs-k-le-LIMIT+in-Value w ↦ rw w.at-is (passed-some c.loop-k.invariant.1 c.loop-k-test.true w.if-pairs-k-le-LIMIT.true (sym w.sentence_at-found.ensures ∙ w.in-Value.is))
-    | else-pairs-k-le-LIMIT w ↦ rw w.at-is (passed-long c.loop-k.invariant.1 c.loop-k-test.true w.if-pairs-k-le-LIMIT.false)
-  ],
-)
+pub loop-claim-preserved : goal.loop-claim-preserved
+loop-claim-preserved c =
+    elim c.if-claim-le-LIMIT.branch [
+      | then-claim-le-LIMIT+in_ok-at w ↦ rw w.at-is (passed-some c.loop-claim.invariant c.loop-claim-test.true w.if-claim-le-LIMIT.true (sym w.in_ok-at.ensures))
+      | else-claim-le-LIMIT w ↦ rw w.at-is (passed-long c.loop-claim.invariant c.loop-claim-test.true w.if-claim-le-LIMIT.false)
+    ]
 
 pub returns : goal.returns
-returns c = passed-done c.loop-k.invariant.1 c.loop-k-test.false
+returns c = passed-done c.loop-claim.invariant c.loop-claim-test.false

@@ -11,6 +11,3 @@ use Rattle.choice.proofs.lowest_symbol.lowest.Given as goal
 
 abbrev pub invariant-loop-k : goal.invariant-loop-k
 invariant-loop-k l = SearchRoom l.values l.next l.events l.done × PassedOver l.order (Completing plain (tables_of l.cells) (claim_in l.d l.table) (end_cost (tables_of l.cells) l.left l.len (entry_in l.togo) (layer_in l.due)) l.stack l.r) l.k
-
-abbrev pub decreases-loop-k : goal.decreases-loop-k
-decreases-loop-k l = l.t - l.k

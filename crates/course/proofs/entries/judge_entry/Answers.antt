@@ -6,22 +6,16 @@ use Rattle.course.specs.EntryLaws.{spelled-sound, ran-right, ran-verdict, ran-re
 use borrow.Author.Rules.{rules}
 use Rattle.course.proofs.entries.judge_entry.Goals as goal
 
-pub drive-ending-requires : goal.drive-ending-requires
-drive-ending-requires c =
-    let len : c.args.e.start + c.args.e.len - c.args.e.start ≡ c.args.e.len = omega arith in
-    record {
-      holds = c.requires.holds;
-      sentence_value = rw len (spelled-sound c.requires.spelled);
-      z_lt_t = c.requires.spelled.below;
-      in_bounds = c.requires.in_bounds;
-    }
+pub drive-ending-requires-clause-sentence_value : goal.drive-ending-requires-clause-sentence_value
+drive-ending-requires-clause-sentence_value c =
+    let len : c.args.e.start + c.args.e.len - c.args.e.start ≡ c.args.e.len = omega arith in rw len (spelled-sound c.requires.spelled)
 
 pub weigh-requires : goal.weigh-requires
 weigh-requires c = ran-right c.args.stack.now c.requires.holds c.requires.spelled c.drive-ending.ensures
 
-pub returns : goal.returns
-returns c =
-    record {
-      value = ran-verdict c.args.stack.now c.requires.holds c.requires.spelled c.drive-ending.ensures _ _ _ _ c.weigh.ensures;
-      stack_unchanged = ran-rest c.args.stack.now c.requires.holds c.requires.spelled c.drive-ending.ensures (search rules) c.requires.in_bounds;
-    }
+pub returns-clause-value : goal.returns-clause-value
+returns-clause-value c = ran-verdict c.args.stack.now c.requires.holds c.requires.spelled c.drive-ending.ensures _ _ _ _ c.weigh.ensures
+
+pub returns-clause-stack_unchanged : goal.returns-clause-stack_unchanged
+returns-clause-stack_unchanged c =
+    ran-rest c.args.stack.now c.requires.holds c.requires.spelled c.drive-ending.ensures (search rules) c.requires.in_bounds

@@ -13,9 +13,6 @@ unfolding weighed
 returns-then-s-least c =
     rw (sym c.is_right.ensures ∙ c.if-not-is_right.false, ← c.stop_of-s.ensures, lt-ltb _ _ c.if-s-least.true)
 
-pub bounds-places-s : goal.bounds-places-s
-bounds-places-s c = rw c.stop_of-s.ensures (c.requires (sym c.is_right.ensures ∙ c.if-not-is_right.false))
-
 pub returns-then-places-s-ne0 : goal.returns-then-places-s-ne0
 unfolding weighed
 returns-then-places-s-ne0 c =

@@ -1,4 +1,4 @@
-use Prim.Native.Nat.{◌-◌, ◌≤◌}
+use Prim.Native.Nat.{◌-◌}
 use Rattle.book.specs.Tables.{tables_of}
 use Rattle.walk.specs.Scale.{plain}
 use Rattle.layers.specs.Layer.{value_in}
@@ -8,7 +8,4 @@ use Rattle.crossings.specs.Pass.{ReductionSettled, TableKept}
 use Rattle.crossings.proofs.reduction.reduce_state.Given as goal
 
 abbrev pub invariant-loop-z : goal.invariant-loop-z
-invariant-loop-z l = (l.z ≤ l.t) × Pass (TableKept plain l.d l.cells) (Each (λ j u. ReductionSettled (tables_of l.cells) l.q l.a l.m l.last j (value_in plain l.values l.flags l.last j) (claim_in l.d u)) l.z) l.n l.initial.table l.table
-
-abbrev pub decreases-loop-z : goal.decreases-loop-z
-decreases-loop-z l = l.t - l.z
+invariant-loop-z l = Pass (TableKept plain l.d l.cells) (Each (λ j u. ReductionSettled (tables_of l.cells) l.q l.a l.m l.last j (value_in plain l.values l.flags l.last j) (claim_in l.d u)) l.z) l.n l.initial.table l.table

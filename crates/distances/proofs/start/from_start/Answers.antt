@@ -7,31 +7,13 @@ use Rattle.distances.specs.TableLaws.{table-usable}
 use Rattle.distances.specs.StartLaws.{arrived-start, lengthened-whole, arrived-more, settled-more, start-table}
 use Rattle.distances.proofs.start.from_start.Goals as goal
 
-pub level-requires : goal.level-requires
-level-requires c =
-    (omega arith, c.requires.holds.small.terminals, length-replicate {A = ℕ} 4096 (unreached plain))
-
 pub loop-n-init : goal.loop-n-init
 loop-n-init c =
     (length-replicate {A = ℕ} 4096 (unreached plain), arrived-start c.requires.holds c.level.ensures.values_len c.level.ensures.table_step, λ e. absurd (omega (arith, e)))
 
-pub lengthen-requires : goal.lengthen-requires
-lengthen-requires c =
-    let p = c.requires in
-    record {
-      usable = table-usable p.holds p.crossing_table p.open_rows;
-      listed = (c.all_on.ensures.listed, c.loop-n.invariant.0);
-    }
-
-pub merge-n-requires : goal.merge-n-requires
-merge-n-requires c =
-    record {
-      small = c.requires.holds.small;
-      dist_len = (c.loop-n.invariant.1.size, c.lengthen.ensures.sized.listed);
-    }
-
-pub loop-n-smaller : goal.loop-n-smaller
-loop-n-smaller c = omega (arith, c.merge-n.ensures.fallen.sum, c.loop-n-test.true)
+pub lengthen-requires-clause-usable : goal.lengthen-requires-clause-usable
+lengthen-requires-clause-usable c =
+    let p = c.requires in table-usable p.holds p.crossing_table p.open_rows
 
 pub loop-n-preserved : goal.loop-n-preserved
 loop-n-preserved c =

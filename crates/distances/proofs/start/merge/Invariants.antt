@@ -1,4 +1,3 @@
-use Prim.Native.Nat.{◌-◌, ◌≤◌}
 use Rattle.walk.specs.Scale.{plain}
 use Rattle.layers.specs.Layer.{value_in}
 use Rattle.layers.specs.States.{listed_in}
@@ -7,7 +6,4 @@ use Rattle.distances.specs.Pass.{Merged, Offer}
 use Rattle.distances.proofs.start.merge.Given as goal
 
 abbrev pub invariant-loop-i : goal.invariant-loop-i
-invariant-loop-i l = (l.i ≤ l.count) × Merged plain (Upto (λ j. Upto (Offer (value_in plain l.values l.flags) (listed_in l.flags j)) l.t) l.i) l.n l.initial.dist l.dist
-
-abbrev pub decreases-loop-i : goal.decreases-loop-i
-decreases-loop-i l = l.count - l.i
+invariant-loop-i l = Merged plain (Upto (λ j. Upto (Offer (value_in plain l.values l.flags) (listed_in l.flags j)) l.d.t) l.i) l.n l.initial.dist l.dist

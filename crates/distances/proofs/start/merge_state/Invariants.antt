@@ -1,4 +1,3 @@
-use Prim.Native.Nat.{◌-◌, ◌≤◌}
 use Rattle.walk.specs.Scale.{plain}
 use Rattle.layers.specs.Layer.{value_in}
 use Rattle.layers.specs.Step.{Upto}
@@ -6,7 +5,4 @@ use Rattle.distances.specs.Pass.{Merged, Offer}
 use Rattle.distances.proofs.start.merge_state.Given as goal
 
 abbrev pub invariant-loop-z : goal.invariant-loop-z
-invariant-loop-z l = (l.z ≤ l.t) × Merged plain (Upto (Offer (value_in plain l.values l.flags) l.q) l.z) l.n l.initial.dist l.dist
-
-abbrev pub decreases-loop-z : goal.decreases-loop-z
-decreases-loop-z l = l.t - l.z
+invariant-loop-z l = Merged plain (Upto (Offer (value_in plain l.values l.flags) l.q) l.z) l.n l.initial.dist l.dist

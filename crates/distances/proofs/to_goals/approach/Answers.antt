@@ -7,21 +7,16 @@ use Rattle.distances.specs.PassLaws.{distance-pass-idle, pass-store}
 use Rattle.distances.specs.GoalLaws.{nearest, nearest-skipped, sooner-attained, marked-store}
 use Rattle.distances.proofs.to_goals.approach.Goals as goal
 
-pub returns-then-rows-q-eq0 : goal.returns-then-rows-q-eq0
-returns-then-rows-q-eq0 c =
+pub returns-then-rows-q-eq0-clause-pass : goal.returns-then-rows-q-eq0-clause-pass
+returns-then-rows-q-eq0-clause-pass c =
     let p = c.requires in
-    record {
-      pass = distance-pass-idle p.bounded (nearest-skipped _ _ p.usable.skips c.if-rows-q-eq0.true (terminal p.usable.fitted.holds p.q_lt_s.1) p.bounded);
-      marked_2 = p.marked;
-    }
+    distance-pass-idle p.bounded (nearest-skipped _ _ p.usable.skips c.if-rows-q-eq0.true (terminal p.usable.fitted.holds p.q_lt_s.1) p.bounded)
 
-pub returns-then-v-ge-UNREACHED : goal.returns-then-v-ge-UNREACHED
-returns-then-v-ge-UNREACHED c =
-    let p = c.requires in let h = terminal p.usable.fitted.holds p.q_lt_s.1 in
-    record {
-      pass = distance-pass-idle p.bounded (nearest p.usable.fitted.holds _ h c.toward-v.ensures (le_trans (p.bounded.most _ _ h) c.if-v-ge-UNREACHED.true));
-      marked_2 = p.marked;
-    }
+pub returns-then-v-ge-UNREACHED-clause-pass : goal.returns-then-v-ge-UNREACHED-clause-pass
+returns-then-v-ge-UNREACHED-clause-pass c =
+    let p = c.requires in
+    let h = terminal p.usable.fitted.holds p.q_lt_s.1 in
+    distance-pass-idle p.bounded (nearest p.usable.fitted.holds _ h c.toward-v.ensures (le_trans (p.bounded.most _ _ h) c.if-v-ge-UNREACHED.true))
 
 pub returns : goal.returns
 returns c =

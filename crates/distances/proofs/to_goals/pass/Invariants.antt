@@ -1,4 +1,4 @@
-use Prim.Native.Nat.{◌-◌, ◌≤◌}
+use Prim.Native.Nat.{◌-◌}
 use Rattle.book.specs.Tables.{tables_of}
 use Rattle.walk.specs.Scale.{plain}
 use Rattle.layers.specs.Crossing.{claim_in}
@@ -7,8 +7,5 @@ use Rattle.distances.specs.Distances.{distance_in}
 use Rattle.distances.specs.Pass.{Drawn, Marked, LeastApproach}
 use Rattle.distances.proofs.to_goals.pass.Given as goal
 
-abbrev pub invariant-loop-i : goal.invariant-loop-i
-invariant-loop-i live = (live.i ≤ live.states) × Pass (Drawn plain (tables_of live.cells) (claim_in live.d live.table)) (Each (λ j. Each (λ a l. LeastApproach plain (tables_of live.cells) (claim_in live.d live.table) (live.d.s - 1 - j) a (distance_in plain l)) live.d.t) live.i) live.n live.initial.dist live.dist × Marked plain live.d.t live.flags live.dist
-
-abbrev pub decreases-loop-i : goal.decreases-loop-i
-decreases-loop-i l = l.states - l.i
+abbrev pub invariant-loop-q : goal.invariant-loop-q
+invariant-loop-q live = Pass (Drawn plain (tables_of live.cells) (claim_in live.d live.table)) (Each (λ j. Each (λ a l. LeastApproach plain (tables_of live.cells) (claim_in live.d live.table) (live.d.s - 1 - j) a (distance_in plain l)) live.d.t) (live.d.s - live.q)) live.n live.initial.dist live.dist × Marked plain live.d.t live.flags live.dist

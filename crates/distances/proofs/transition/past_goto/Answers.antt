@@ -1,8 +1,6 @@
 -- `distances::transition::past_goto` meets its contract. Assumes nothing.
-use native.Mathlib.Omega.{arith}
 use mathlib.Core.Path.{refl}
-use Prim.Native.Nat.{◌-◌}
-use Rattle.layers.specs.StepLaws.{step-zero, step-more, step-done}
+use Rattle.layers.specs.StepLaws.{step-more}
 use Rattle.distances.specs.DistancesLaws.{distance_read}
 use Rattle.distances.specs.GoalLaws.{lessened, past-goto-off}
 use Rattle.walk.specs.Scale.{plain}
@@ -12,12 +10,6 @@ pub returns-then-flags-g-eq0 : goal.returns-then-flags-g-eq0
 returns-then-flags-g-eq0 c =
     past-goto-off c.requires.marked c.args.g c.args.table.now c.args.start c.if-flags-g-eq0.true
 
-pub loop-b-init : goal.loop-b-init
-loop-b-init c = (omega arith, step-zero)
-
 pub loop-b-preserved : goal.loop-b-preserved
 loop-b-preserved c =
-    (omega arith, step-more _ _ c.loop-b.invariant.1 (rw (distance_read plain c.args.dist.now c.args.g c.loop-b.b c.requires.g_bound.0) (lessened _ _ _ _ _ c.least-r.ensures refl c.add.ensures)))
-
-pub returns : goal.returns
-returns c = step-done c.loop-b.invariant.0 c.loop-b-test.false c.loop-b.invariant.1
+    step-more _ _ c.loop-b.invariant (rw (distance_read plain c.args.dist.now c.args.g c.loop-b.b c.requires.g_bound.0) (lessened _ _ _ _ _ c.least-r.ensures refl c.add.ensures))

@@ -4,4 +4,4 @@ use Rattle.finder.proofs.admission.admit_pair.Goals as goal
 
 pub returns : goal.returns
 unfolding pair_refusals
-returns c = cc
+returns c = rw c.work_cells.ensures at c.admit.ensures

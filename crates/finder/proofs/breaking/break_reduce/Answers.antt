@@ -4,16 +4,6 @@ use Rattle.layers.specs.CrossingLaws.{left_below, length-below}
 use Rattle.finder.specs.PairLaws.{broken-guides, broken-exact}
 use Rattle.finder.proofs.breaking.break_reduce.Goals as goal
 
-pub to_break-requires : goal.to_break-requires
-to_break-requires c =
-    let p = c.requires in
-    record {
-      holds = p.holds;
-      crossing_table = p.crossing_table;
-      open_rows = c.open_rows.ensures;
-      p_lt_p = (p.p_lt_p.0, p.s_lt_s.0, p.s_lt_s.1, c.layers-due.ensures);
-    }
-
 pub start_cost-n-requires : goal.start_cost-n-requires
 start_cost-n-requires c =
     let p = c.requires in

@@ -1,15 +1,8 @@
 -- `finder::find_pair::solve` meets its contract: the plain cells have the book's tables, and the row of terminals its ranks. Assumes nothing.
-use mathlib.Core.Path.{sym}
-use native.Mathlib.Omega.{arith}
-use lib.Seq.{length-take-le}
 use Rattle.forms.proofs.FormsLaws.{plain-holds, plain-tables}
 use Rattle.layers.specs.CrossingLaws.{terminals-are}
 use Rattle.finder.specs.PairLaws.{answered-rank}
 use Rattle.finder.proofs.find_pair.solve.Goals as goal
-
-pub slice_bounds-solve_plain-end : goal.slice_bounds-solve_plain-end
-slice_bounds-solve_plain-end c =
-    sym (length-take-le _ _ (omega (arith, c.plain_cells-n.ensures.1, c.plain_cells-n.auto.to)))
 
 pub solve_plain-requires : goal.solve_plain-requires
 solve_plain-requires c =

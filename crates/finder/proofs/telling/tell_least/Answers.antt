@@ -2,16 +2,8 @@
 use native.Mathlib.Omega.{arith}
 use Rattle.book.specs.Tables.{tables_of}
 use Rattle.book.proofs.TablesLaws.{in-range}
-use Rattle.finder.specs.PairLaws.{brings-exact, answered-unreached, answered-long, answered-sentence}
+use Rattle.finder.specs.PairLaws.{brings-exact, answered-sentence}
 use Rattle.finder.proofs.telling.tell_least.Goals as goal
-
-pub returns-then-n-ge-UNREACHED : goal.returns-then-n-ge-UNREACHED
-returns-then-n-ge-UNREACHED c =
-    let a = c.args in answered-unreached a.breaks (tables_of a.cells.now) a.s a.z _ c.requires.layered.1 c.if-n-ge-UNREACHED.true
-
-pub returns-then-n-ge-LONG : goal.returns-then-n-ge-LONG
-returns-then-n-ge-LONG c =
-    let a = c.args in answered-long a.breaks (tables_of a.cells.now) a.s a.z _ c.requires.layered.1 c.if-n-ge-LONG.true c.if-n-ge-UNREACHED.false
 
 pub write_sentence-requires : goal.write_sentence-requires
 write_sentence-requires c =

@@ -7,34 +7,19 @@ use Rattle.forms.proofs.WritingLaws.{bounds}
 use Rattle.forms.proofs.order.by_rank.Goals as goal
 
 pub loop-a-init : goal.loop-a-init
-loop-a-init c = (omega arith, filling-none _ _ c.requires)
+loop-a-init c = filling-none _ _ c.requires
 
 pub overflow_cast-order : goal.overflow_cast-order
 overflow_cast-order c =
     let b = bounds _ _ c.requires in omega (arith, b.terminals, c.loop-a-test.true)
 
-pub rank_at-requires : goal.rank_at-requires
-rank_at-requires c =
-    record {
-      accepted = c.requires;
-      a_lt_t = c.loop-a-test.true;
-    }
-
-pub overflow_cast-order-in-loop-a : goal.overflow_cast-order-in-loop-a
-overflow_cast-order-in-loop-a c =
-    let b = bounds _ _ c.requires in omega (arith, c.rank_at.ensures, rank_below _ _ c.requires c.loop-a.a c.loop-a-test.true, b.terminals)
-
 pub bounds-order-rank_at : goal.bounds-order-rank_at
 bounds-order-rank_at c =
-    let b = bounds _ _ c.requires in omega (arith, c.rank_at.ensures, rank_below _ _ c.requires c.loop-a.a c.loop-a-test.true, b.terminals, c.loop-a.invariant.1.size)
-
-pub overflow_add-a : goal.overflow_add-a
-overflow_add-a c =
-    let b = bounds _ _ c.requires in omega (arith, b.terminals, c.loop-a-test.true)
+    let b = bounds _ _ c.requires in omega (arith, c.rank_at.ensures, rank_below _ _ c.requires c.loop-a.a c.loop-a-test.true, b.terminals, c.loop-a.invariant.size)
 
 pub loop-a-preserved : goal.loop-a-preserved
 loop-a-preserved c =
-    (omega arith, rw c.rank_at.ensures (filling-more _ _ c.requires c.loop-a.invariant.1 c.loop-a-test.true))
+    rw c.rank_at.ensures (filling-more _ _ c.requires c.loop-a.invariant c.loop-a-test.true)
 
 pub returns : goal.returns
-returns c = filling-done _ _ c.requires c.loop-a.invariant.1 c.loop-a-test.false
+returns c = filling-done _ _ c.requires c.loop-a.invariant c.loop-a-test.false

@@ -3,7 +3,4 @@ use Rattle.forms.specs.OrderLaws.{Filling}
 use Rattle.forms.proofs.order.by_rank.Given as goal
 
 abbrev pub invariant-loop-a : goal.invariant-loop-a
-invariant-loop-a l = (1 ≤ l.a) × Filling l.cells l.d l.order l.a
-
-abbrev pub decreases-loop-a : goal.decreases-loop-a
-decreases-loop-a l = l.t - l.a
+invariant-loop-a l = Filling l.cells l.d l.order l.a

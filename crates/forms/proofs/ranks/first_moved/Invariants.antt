@@ -7,7 +7,4 @@ use Rattle.forms.specs.Forms.{lowest}
 use Rattle.forms.proofs.ranks.first_moved.Given as goal
 
 abbrev pub invariant-loop-a : goal.invariant-loop-a
-invariant-loop-a l = (l.a ≤ l.t) × (lowest (λ b. not (eqb (rank_of l.cells b) b)) l.t 0 ≡ lowest (λ b. not (eqb (rank_of l.cells b) b)) (l.t - l.a) l.a)
-
-abbrev pub decreases-loop-a : goal.decreases-loop-a
-decreases-loop-a l = l.t - l.a
+invariant-loop-a l = (lowest (λ b. not (eqb (rank_of l.cells b) b)) l.d.t 0 ≡ lowest (λ b. not (eqb (rank_of l.cells b) b)) (l.d.t - l.a) l.a)

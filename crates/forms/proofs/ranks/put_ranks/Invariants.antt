@@ -7,7 +7,4 @@ use Rattle.book.specs.Tables.{rank_of}
 use Rattle.forms.proofs.ranks.put_ranks.Given as goal
 
 abbrev pub invariant-loop-a : goal.invariant-loop-a
-invariant-loop-a l = (l.a ≤ l.t) × (l.to ≡ paste l.initial.to l.at (firsts (rank_of l.cells) l.t) l.a) × (length l.to ≡ length l.initial.to)
-
-abbrev pub decreases-loop-a : goal.decreases-loop-a
-decreases-loop-a l = l.t - l.a
+invariant-loop-a l = (l.to ≡ paste l.initial.to l.at (firsts (rank_of l.cells) l.d.t) l.a) × (length l.to ≡ length l.initial.to)

@@ -1,5 +1,5 @@
 -- `joining::join::join_against` meets its contract: the first list next. Assumes nothing.
-use mathlib.Core.Path.{sym, ◌∙◌}
+use mathlib.Core.Path.{sym}
 use Rattle.course.specs.AcceptedLaws.{list-accepted}
 use Rattle.joining.proofs.JoinLaws.{first-unlisted}
 use Rattle.joining.proofs.join.join_against.Goals as goal
@@ -8,8 +8,8 @@ pub join_with-requires : goal.join_with-requires
 join_with-requires c =
     record {
       accepted = c.requires;
-      list_accepted = list-accepted _ _ (sym c.check_entries.ensures ∙ c.in-Entries.is);
+      list_accepted = list-accepted _ _ (sym c.in-Ok.ensures);
     }
 
-pub returns-in-Refused : goal.returns-in-Refused
-returns-in-Refused c = first-unlisted _ _ _ _ _ _ (sym c.check_entries.ensures ∙ c.in-Refused.is)
+pub returns-in-Err : goal.returns-in-Err
+returns-in-Err c = first-unlisted _ _ _ _ _ _ (sym c.in-Err.ensures)

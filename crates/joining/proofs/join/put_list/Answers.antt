@@ -13,23 +13,23 @@ use Rattle.joining.proofs.join.put_list.Goals as goal
 pub returns-in_default : goal.returns-in_default
 returns-in_default c =
     let a = c.args in
-    let short = rw c.in_default.is at c.measure.ensures in
-    rw c.too_short.ensures (pieces-short (written (count_to a.places.now a.others.now a.states)) (pieces_to a.first.now a.places.now a.second.now a.others.now a.states) a.out.now short)
+    let short = c.in_default.ensures in
+    rw c.at.ensures (pieces-short (written (count_to a.places.now a.others.now a.states)) (pieces_to a.first.now a.places.now a.second.now a.others.now a.states) a.out.now short)
 
 pub returns-then-left-width : goal.returns-then-left-width
 returns-then-left-width c =
     let measured-here : let a = c.args in
-    (c.in-Left.left + length (pieces_to a.first.now a.places.now a.second.now a.others.now a.states) ≡ length a.out.now)
-    × (c.in-Left.count ≡ count_to a.places.now a.others.now a.states) = rw c.in-Left.is at c.measure.ensures in
+    (c.in-Some.left + length (pieces_to a.first.now a.places.now a.second.now a.others.now a.states) ≡ length a.out.now)
+    × (c.in-Some.count ≡ count_to a.places.now a.others.now a.states) = c.in-Some.ensures in
     let counted-here : let a = c.args in c.width.result ≡ length (written (count_to a.places.now a.others.now a.states)) = rw measured-here.1 at c.width.ensures in
     let a = c.args in
-    rw c.too_short-then-left-width.ensures (count-short (written (count_to a.places.now a.others.now a.states)) (pieces_to a.first.now a.places.now a.second.now a.others.now a.states) a.out.now c.in-Left.left measured-here.0 (omega (arith, counted-here)))
+    rw c.at-then-left-width.ensures (count-short (written (count_to a.places.now a.others.now a.states)) (pieces_to a.first.now a.places.now a.second.now a.others.now a.states) a.out.now c.in-Some.left measured-here.0 (omega (arith, counted-here)))
 
 pub write-start-requires : goal.write-start-requires
 write-start-requires c =
     let measured-here : let a = c.args in
-    (c.in-Left.left + length (pieces_to a.first.now a.places.now a.second.now a.others.now a.states) ≡ length a.out.now)
-    × (c.in-Left.count ≡ count_to a.places.now a.others.now a.states) = rw c.in-Left.is at c.measure.ensures in
+    (c.in-Some.left + length (pieces_to a.first.now a.places.now a.second.now a.others.now a.states) ≡ length a.out.now)
+    × (c.in-Some.count ≡ count_to a.places.now a.others.now a.states) = c.in-Some.ensures in
     record {
       n_bound = search rules;
       n_in_bounds = omega (arith, c.width.ensures, measured-here.0);
@@ -38,20 +38,20 @@ write-start-requires c =
 pub put_pieces-requires : goal.put_pieces-requires
 put_pieces-requires c =
     let measured-here : let a = c.args in
-    (c.in-Left.left + length (pieces_to a.first.now a.places.now a.second.now a.others.now a.states) ≡ length a.out.now)
-    × (c.in-Left.count ≡ count_to a.places.now a.others.now a.states) = rw c.in-Left.is at c.measure.ensures in
+    (c.in-Some.left + length (pieces_to a.first.now a.places.now a.second.now a.others.now a.states) ≡ length a.out.now)
+    × (c.in-Some.count ≡ count_to a.places.now a.others.now a.states) = c.in-Some.ensures in
     let w = c.write-start.ensures in
     record {
       states_bound = search rules;
-      states_in_bounds = omega (arith, w.0, ap length w.1, length-sets c.args.out.now 0 (written c.in-Left.count), c.width.ensures, measured-here.0);
+      states_in_bounds = omega (arith, w.0, ap length w.1, length-sets c.args.out.now 0 (written c.in-Some.count), c.width.ensures, measured-here.0);
     }
 
 pub returns : goal.returns
 returns c =
     let measured-here : let a = c.args in
-    (c.in-Left.left + length (pieces_to a.first.now a.places.now a.second.now a.others.now a.states) ≡ length a.out.now)
-    × (c.in-Left.count ≡ count_to a.places.now a.others.now a.states) = rw c.in-Left.is at c.measure.ensures in
+    (c.in-Some.left + length (pieces_to a.first.now a.places.now a.second.now a.others.now a.states) ≡ length a.out.now)
+    × (c.in-Some.count ≡ count_to a.places.now a.others.now a.states) = c.in-Some.ensures in
     let counted-here : let a = c.args in c.width.result ≡ length (written (count_to a.places.now a.others.now a.states)) = rw measured-here.1 at c.width.ensures in
     let a = c.args in
     let w = rw measured-here.1 at c.write-start.ensures in
-    list_put (written (count_to a.places.now a.others.now a.states)) (pieces_to a.first.now a.places.now a.second.now a.others.now a.states) a.out.now c.in-Left.left measured-here.0 _ _ _ _ (omega (arith, counted-here)) w (c.put_pieces.ensures.value, c.put_pieces.ensures.out_after)
+    list_put (written (count_to a.places.now a.others.now a.states)) (pieces_to a.first.now a.places.now a.second.now a.others.now a.states) a.out.now c.in-Some.left measured-here.0 _ _ _ _ (omega (arith, counted-here)) w (c.put_pieces.ensures.value, c.put_pieces.ensures.out_after)

@@ -4,4 +4,4 @@ use Rattle.judgement.proofs.admission.admit_room.Goals as goal
 
 pub returns : goal.returns
 unfolding judge_refusals
-returns c = cc
+returns c = rw c.work_cells.ensures at c.admit.ensures

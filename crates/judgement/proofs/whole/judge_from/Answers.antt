@@ -1,13 +1,6 @@
 -- `judgement::whole::judge_from` meets its contract: the plain cells have the book's tables. Assumes nothing.
-use mathlib.Core.Path.{sym}
-use native.Mathlib.Omega.{arith}
-use lib.Seq.{length-take-le}
 use Rattle.forms.proofs.FormsLaws.{plain-holds, plain-tables}
 use Rattle.judgement.proofs.whole.judge_from.Goals as goal
-
-pub slice_bounds-judge_plain-end : goal.slice_bounds-judge_plain-end
-slice_bounds-judge_plain-end c =
-    sym (length-take-le _ _ (omega (arith, c.plain_cells-n.ensures.1, c.plain_cells-n.auto.to)))
 
 pub judge_plain-requires : goal.judge_plain-requires
 judge_plain-requires c =

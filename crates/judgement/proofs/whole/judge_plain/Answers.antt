@@ -6,18 +6,18 @@ use Rattle.judgement.specs.CoverageLaws.{covered-judged}
 use Rattle.judgement.specs.Judgement.{faulty}
 use Rattle.judgement.proofs.whole.judge_plain.Goals as goal
 
-pub returns-in-First : goal.returns-in-First
-returns-in-First c =
-    let f = rw c.in-First.is at c.judge_entries.ensures.entries_passed in
+pub returns-in-Err : goal.returns-in-Err
+returns-in-Err c =
+    let f = c.in-Err.ensures.entries_passed in
     record {
       judged = faulty _ f;
       beyond = record { size = refl; rest = λ k h. refl };
       stack_unchanged = c.judge_entries.ensures.stack_unchanged;
     }
 
-pub returns-in-None : goal.returns-in-None
-returns-in-None c =
-    let f = rw c.in-None.is at c.judge_entries.ensures.entries_passed in
+pub returns-in-Ok : goal.returns-in-Ok
+returns-in-Ok c =
+    let f = c.in-Ok.ensures.entries_passed in
     record {
       judged = covered-judged (omega (arith, states-are c.requires.holds, c.requires.holds.small.states)) f.same f.marks c.cover.ensures.covered;
       beyond = c.cover.ensures.beyond;

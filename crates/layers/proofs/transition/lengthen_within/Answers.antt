@@ -1,6 +1,6 @@
 -- `layers::transition::lengthen_within` meets its contract. Assumes nothing.
 use native.Mathlib.Omega.{arith}
-use Prim.Native.Nat.{◌-◌, ◌<◌}
+use Prim.Native.Nat.{◌<◌}
 use lib.ListN.{get_or}
 use Rattle.book.specs.Tables.{tables_of}
 use Rattle.walk.specs.Scale.{plain}
@@ -12,7 +12,7 @@ use Rattle.layers.specs.LengthenLaws.{leaves-listed, lengthened}
 use Rattle.layers.proofs.transition.lengthen_within.Goals as goal
 
 pub loop-i-init : goal.loop-i-init
-loop-i-init c = (omega arith, record { size = c.requires.listed.1; listed = listed-none }, step-zero)
+loop-i-init c = (record { size = c.requires.listed.1; listed = listed-none }, step-zero)
 
 pub leave_state-requires : goal.leave_state-requires
 leave_state-requires c =
@@ -22,16 +22,16 @@ leave_state-requires c =
     record {
       usable = p.usable;
       q_lt_s = (rw c.state_on.ensures (l.below _ (turn-here)), p.bound_bound.0, p.bound_bound.1, rw c.state_on.ensures (l.on _ (turn-here)));
-      sized = c.loop-i.invariant.1;
+      sized = c.loop-i.invariant.0;
     }
 
 pub loop-i-preserved : goal.loop-i-preserved
 loop-i-preserved c =
-    (omega arith, c.leave_state.ensures.sized_2, step-more _ _ c.loop-i.invariant.2 (rw c.state_on.ensures at c.leave_state.ensures.table_step))
+    (c.leave_state.ensures.sized_2, step-more _ _ c.loop-i.invariant.1 (rw c.state_on.ensures at c.leave_state.ensures.table_step))
 
 pub returns : goal.returns
 returns c =
     record {
-      sized = c.loop-i.invariant.1;
-      lengthened_to = lengthened c.requires.usable.fitted.holds _ _ (value_none plain _) (leaves-listed plain c.args.d _ (tables_of c.args.cells.now) (claim_in c.args.d c.args.table.now) _ _ _ c.requires.listed.0 (step-done (omega (arith, c.loop-i.invariant.0, c.count_on-n.ensures)) (omega (arith, c.loop-i-test.false, c.count_on-n.ensures)) c.loop-i.invariant.2));
+      sized = c.loop-i.invariant.0;
+      lengthened_to = lengthened c.requires.usable.fitted.holds _ _ (value_none plain _) (leaves-listed plain c.args.d _ (tables_of c.args.cells.now) (claim_in c.args.d c.args.table.now) _ _ _ c.requires.listed.0 (step-done (omega (arith, c.loop-i.invariant.0, c.count_on-n.ensures)) (omega (arith, c.loop-i-test.false, c.count_on-n.ensures)) c.loop-i.invariant.1));
     }

@@ -1,4 +1,3 @@
-use Prim.Native.Nat.{◌-◌, ◌≤◌}
 use Rattle.book.specs.Tables.{tables_of}
 use Rattle.walk.specs.Scale.{plain}
 use Rattle.layers.specs.Layer.{Sized, value_in}
@@ -6,7 +5,4 @@ use Rattle.layers.specs.Step.{TableStep, ShiftsBy}
 use Rattle.layers.proofs.transition.shifts_from.Given as goal
 
 abbrev pub invariant-loop-k : goal.invariant-loop-k
-invariant-loop-k l = (l.k ≤ l.n) × Sized l.d.s l.values l.flags × TableStep plain (ShiftsBy plain l.d l.wanted (tables_of l.cells) l.q l.terminals l.costs l.k) (value_in plain l.initial.values l.initial.flags) (value_in plain l.values l.flags)
-
-abbrev pub decreases-loop-k : goal.decreases-loop-k
-decreases-loop-k l = l.n - l.k
+invariant-loop-k l = Sized l.d.s l.values l.flags × TableStep plain (ShiftsBy plain l.d l.wanted (tables_of l.cells) l.q l.terminals l.costs l.k) (value_in plain l.initial.values l.initial.flags) (value_in plain l.values l.flags)

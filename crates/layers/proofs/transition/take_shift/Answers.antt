@@ -1,6 +1,5 @@
 -- `layers::transition::take_shift` meets its contract. Assumes nothing.
 use native.Mathlib.Omega.{arith}
-use Prim.Native.Nat.{◌<◌}
 use Rattle.layers.specs.ActionLaws.{error-shiftless, accept-shiftless, reduce-shiftless}
 use Rattle.layers.specs.LayerLaws.{sized-most}
 use Rattle.layers.specs.LengthenLaws.{step-shift}
@@ -10,8 +9,7 @@ use Rattle.layers.proofs.transition.take_shift.Goals as goal
 
 pub bounds-wanted-s : goal.bounds-wanted-s
 bounds-wanted-s c =
-    let target-here : (c.in-Shift.s < c.args.d.s) × (c.in-Shift.s < 128) = (let l = c.requires.by_index _ c.in-Shift.is in (l, omega (arith, l, c.requires.small.states))) in
-    omega (arith, target-here, c.requires.wanted_len)
+    omega (arith, c.requires.by_index _ c.in-Shift.is, c.requires.small.states, c.requires.wanted_len)
 
 pub returns-then-wanted-s-eq0 : goal.returns-then-wanted-s-eq0
 returns-then-wanted-s-eq0 c =
@@ -22,22 +20,19 @@ returns-then-wanted-s-eq0 c =
 
 pub turn_on-requires : goal.turn_on-requires
 turn_on-requires c =
-    let target-here : (c.in-Shift.s < c.args.d.s) × (c.in-Shift.s < 128) = (let l = c.requires.by_index _ c.in-Shift.is in (l, omega (arith, l, c.requires.small.states))) in
     record {
       sized = sized-most c.requires.small.states c.requires.sized;
-      g_bound = target-here.1;
+      g_bound = omega (arith, c.requires.by_index _ c.in-Shift.is, c.requires.small.states);
     }
 
 pub level-requires : goal.level-requires
 level-requires c =
-    let target-here : (c.in-Shift.s < c.args.d.s) × (c.in-Shift.s < 128) = (let l = c.requires.by_index _ c.in-Shift.is in (l, omega (arith, l, c.requires.small.states))) in
-    (target-here.1, c.requires.small.terminals, (c.turn_on.ensures.by_index _ target-here.0 c.requires.sized).size)
+    (omega (arith, c.requires.by_index _ c.in-Shift.is, c.requires.small.states), c.requires.small.terminals, (c.turn_on.ensures.by_index _ (c.requires.by_index _ c.in-Shift.is) c.requires.sized).size)
 
 pub returns-else-wanted-s-eq0 : goal.returns-else-wanted-s-eq0
 returns-else-wanted-s-eq0 c =
-    let target-here : (c.in-Shift.s < c.args.d.s) × (c.in-Shift.s < 128) = (let l = c.requires.by_index _ c.in-Shift.is in (l, omega (arith, l, c.requires.small.states))) in
     record {
-      sized_2 = record { size = c.level.ensures.values_len; listed = (c.turn_on.ensures.by_index _ target-here.0 c.requires.sized).listed };
+      sized_2 = record { size = c.level.ensures.values_len; listed = (c.turn_on.ensures.by_index _ (c.requires.by_index _ c.in-Shift.is) c.requires.sized).listed };
       table_step = step-shift c.args.d _ _ _ _ _ _ c.in-Shift.is (record { on = c.if-wanted-s-eq0.false }) c.turn_on.ensures.turned_on c.level.ensures.table_step;
     }
 

@@ -1,10 +1,7 @@
-use Prim.Native.Nat.{ℕ, ◌-◌, ◌≤◌, ◌<◌}
+use Prim.Native.Nat.{ℕ, ◌<◌}
 use Rattle.book.specs.Tables.{tables_of}
 use Rattle.lengths.specs.Ahead.{Grown, NoneByAction}
 use Rattle.lengths.proofs.ahead.by_actions.Given as goal
 
 abbrev pub invariant-loop-z : goal.invariant-loop-z
-invariant-loop-z l = (l.z ≤ l.t) × Grown (λ X. (j : ℕ) → j < l.z → NoneByAction (tables_of l.cells) l.m l.after l.q j X) 0 l.mask
-
-abbrev pub decreases-loop-z : goal.decreases-loop-z
-decreases-loop-z l = l.t - l.z
+invariant-loop-z l = Grown (λ X. (j : ℕ) → j < l.z → NoneByAction (tables_of l.cells) l.m l.after l.q j X) 0 l.mask

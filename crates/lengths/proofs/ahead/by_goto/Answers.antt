@@ -1,12 +1,8 @@
 -- `lengths::ahead::by_goto` meets its contract. Assumes nothing.
-use mathlib.Core.Path.{◌∙◌, sym}
 use native.Mathlib.Omega.{arith}
 use Rattle.layers.specs.CrossingLaws.{goto-least}
-use Rattle.lengths.specs.AheadLaws.{none-by-no-goto, none-by-goto}
+use Rattle.lengths.specs.AheadLaws.{none-by-goto}
 use Rattle.lengths.proofs.ahead.by_goto.Goals as goal
-
-pub returns-then-target-eq0 : goal.returns-then-target-eq0
-returns-then-target-eq0 c = none-by-no-goto _ _ (sym c.goto_at-target.ensures ∙ c.if-target-eq0.true)
 
 pub bounds-after-target : goal.bounds-after-target
 bounds-after-target c =

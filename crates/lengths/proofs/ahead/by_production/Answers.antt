@@ -1,11 +1,7 @@
 -- `lengths::ahead::by_production` meets its contract. Assumes nothing.
-use mathlib.Core.Path.{◌∙◌}
 use Rattle.layers.specs.CrossingLaws.{left_below}
-use Rattle.lengths.specs.AheadLaws.{unlike-length, with-left-side}
+use Rattle.lengths.specs.AheadLaws.{with-left-side}
 use Rattle.lengths.proofs.ahead.by_production.Goals as goal
-
-pub returns-then-production_length-m : goal.returns-then-production_length-m
-returns-then-production_length-m c = unlike-length _ (λ e. c.if-production_length-m.true (c.production_length.ensures ∙ e))
 
 pub insert-requires : goal.insert-requires
 insert-requires c =

@@ -1,5 +1,4 @@
 use mathlib.Core.Path.{◌≡◌}
-use Prim.Native.Nat.{◌-◌, ◌≤◌}
 use lib.ListN.{length}
 use Rattle.book.specs.Tables.{tables_of}
 use Rattle.walk.specs.Scale.{plain}
@@ -10,7 +9,4 @@ use Rattle.lengths.specs.Lengths.{LayerEnding, Turn}
 use Rattle.lengths.proofs.layer.lower_layer.Given as goal
 
 abbrev pub invariant-loop-i : goal.invariant-loop-i
-invariant-loop-i l = (l.i ≤ l.count) × (length l.to ≡ 4096) × TableStep plain (Upto (λ j. Upto (Turn (LayerEnding plain l.missing (tables_of l.cells) l.m (value_in plain l.values l.flags)) (listed_in l.flags j)) l.d.t) l.i) (entry_in l.initial.to) (entry_in l.to)
-
-abbrev pub decreases-loop-i : goal.decreases-loop-i
-decreases-loop-i l = l.count - l.i
+invariant-loop-i l = (length l.to ≡ 4096) × TableStep plain (Upto (λ j. Upto (Turn (LayerEnding plain l.missing (tables_of l.cells) l.m (value_in plain l.values l.flags)) (listed_in l.flags j)) l.d.t) l.i) (entry_in l.initial.to) (entry_in l.to)

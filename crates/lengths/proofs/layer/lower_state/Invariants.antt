@@ -1,5 +1,4 @@
 use mathlib.Core.Path.{◌≡◌}
-use Prim.Native.Nat.{◌-◌, ◌≤◌}
 use lib.ListN.{length}
 use Rattle.book.specs.Tables.{tables_of}
 use Rattle.walk.specs.Scale.{plain}
@@ -9,7 +8,4 @@ use Rattle.lengths.specs.Lengths.{LayerEnding, Turn}
 use Rattle.lengths.proofs.layer.lower_state.Given as goal
 
 abbrev pub invariant-loop-z : goal.invariant-loop-z
-invariant-loop-z l = (l.z ≤ l.t) × (length l.to ≡ 4096) × TableStep plain (Upto (Turn (LayerEnding plain l.missing (tables_of l.cells) l.m (value_in plain l.values l.flags)) l.s) l.z) (entry_in l.initial.to) (entry_in l.to)
-
-abbrev pub decreases-loop-z : goal.decreases-loop-z
-decreases-loop-z l = l.t - l.z
+invariant-loop-z l = (length l.to ≡ 4096) × TableStep plain (Upto (Turn (LayerEnding plain l.missing (tables_of l.cells) l.m (value_in plain l.values l.flags)) l.s) l.z) (entry_in l.initial.to) (entry_in l.to)

@@ -1,5 +1,4 @@
 use mathlib.Core.Path.{◌≡◌}
-use Prim.Native.Nat.{◌-◌, ◌≤◌}
 use lib.ListN.{length}
 use Rattle.book.specs.Tables.{tables_of}
 use Rattle.walk.specs.Scale.{plain}
@@ -10,7 +9,4 @@ use Rattle.lengths.specs.Starts.{FarBreak}
 use Rattle.lengths.proofs.lengths.all_far_breaks.Given as goal
 
 abbrev pub invariant-loop-x : goal.invariant-loop-x
-invariant-loop-x l = (l.x ≤ l.n) × (Scratch l.values l.next × (length l.to ≡ 4096)) × TableStep plain (Upto (FarBreak plain (tables_of l.cells) (claim_in l.d l.table)) l.x) (entry_in l.initial.to) (entry_in l.to)
-
-abbrev pub decreases-loop-x : goal.decreases-loop-x
-decreases-loop-x l = l.n - l.x
+invariant-loop-x l = (Scratch l.values l.next × (length l.to ≡ 4096)) × TableStep plain (Upto (FarBreak plain (tables_of l.cells) (claim_in l.d l.table)) l.x) (entry_in l.initial.to) (entry_in l.to)

@@ -1,11 +1,7 @@
-use Prim.Native.Nat.{◌-◌, ◌≤◌}
 use Rattle.book.specs.Tables.{tables_of}
 use Rattle.walk.specs.Scale.{plain}
 use Rattle.lengths.specs.Lengths.{LackingOn}
 use Rattle.lengths.proofs.starts.lacking_states.Given as goal
 
 abbrev pub invariant-loop-q : goal.invariant-loop-q
-invariant-loop-q l = (l.q ≤ l.states) × LackingOn plain l.d.t (tables_of l.cells) l.x l.dist l.masks l.q l.flags
-
-abbrev pub decreases-loop-q : goal.decreases-loop-q
-decreases-loop-q l = l.states - l.q
+invariant-loop-q l = LackingOn plain l.d.t (tables_of l.cells) l.x l.dist l.masks l.q l.flags

@@ -1,10 +1,7 @@
-use Prim.Native.Nat.{ℕ, ◌-◌, ◌≤◌, ◌<◌}
+use Prim.Native.Nat.{ℕ, ◌≤◌, ◌<◌}
 use Rattle.walk.specs.Scale.{plain, unreached}
 use Rattle.layers.specs.Layer.{entry_in}
 use Rattle.lengths.proofs.starts.reached.Given as goal
 
 abbrev pub invariant-loop-a : goal.invariant-loop-a
-invariant-loop-a l = (l.a ≤ l.t) × ((j : ℕ) → j < l.a → unreached plain ≤ entry_in l.dist l.q j)
-
-abbrev pub decreases-loop-a : goal.decreases-loop-a
-decreases-loop-a l = l.t - l.a
+invariant-loop-a l = (j : ℕ) → j < l.a → unreached plain ≤ entry_in l.dist l.q j

@@ -1,7 +1,5 @@
 -- `lines::counts::rows` meets its contract: one state after the other. Assumes nothing.
-use Prim.Native.Nat.{◌-◌}
 use native.Mathlib.Omega.{arith}
-use native.Mathlib.Nat.{le_antisymm}
 use Rattle.failing.specs.Tests.{fails_in}
 use Rattle.lines.specs.Counts.{pairs_of}
 use Rattle.lines.specs.Parts.{listed_in}
@@ -15,20 +13,14 @@ loop-q-init c = search rules
 
 pub overflow_add-lines : goal.overflow_add-lines
 overflow_add-lines c =
-    record { fits = omega (arith, c.loop-q.invariant.1, c.loop-q-test.true, pairs-few (listed_in c.args.cells.now c.args.broken.now) c.args.d c.loop-q.q c.requires.small c.loop-q.invariant.0, c.row-more.ensures.lines_value, count_most (listed_in c.args.cells.now c.args.broken.now c.loop-q.q) c.args.d.t, c.requires.small.terminals) }
+    record { fits = omega (arith, pairs-few (listed_in c.args.cells.now c.args.broken.now) c.args.d c.loop-q.q c.requires.small (omega arith), count_most (listed_in c.args.cells.now c.args.broken.now c.loop-q.q) c.args.d.t, c.requires.small.terminals) }
 
 pub overflow_add-failing : goal.overflow_add-failing
 overflow_add-failing c =
-    record { fits = omega (arith, c.loop-q.invariant.2, c.loop-q-test.true, pairs-few (fails_in c.args.cells.now c.args.dist.now c.args.broken.now) c.args.d c.loop-q.q c.requires.small c.loop-q.invariant.0, c.row-more.ensures.failing_value, count_most (fails_in c.args.cells.now c.args.dist.now c.args.broken.now c.loop-q.q) c.args.d.t, c.requires.small.terminals) }
+    record { fits = omega (arith, pairs-few (fails_in c.args.cells.now c.args.dist.now c.args.broken.now) c.args.d c.loop-q.q c.requires.small (omega arith), count_most (fails_in c.args.cells.now c.args.dist.now c.args.broken.now c.loop-q.q) c.args.d.t, c.requires.small.terminals) }
 
 pub loop-q-preserved : goal.loop-q-preserved
-loop-q-preserved c =
-    (omega arith, pairs-step (listed_in c.args.cells.now c.args.broken.now) _ _ _ _ c.loop-q.invariant.1 c.row-more.ensures.lines_value, pairs-step (fails_in c.args.cells.now c.args.dist.now c.args.broken.now) _ _ _ _ c.loop-q.invariant.2 c.row-more.ensures.failing_value)
-
-pub returns : goal.returns
-returns c =
-    let all = le_antisymm c.loop-q.invariant.0 c.loop-q-test.false in
-    record {
-      lines_value = rw all at c.loop-q.invariant.1;
-      failing_value = rw all at c.loop-q.invariant.2;
-    }
+loop-q-preserved c = (
+  pairs-step (listed_in c.args.cells.now c.args.broken.now) _ _ _ _ c.loop-q.invariant.0 c.row-more.ensures.lines_value,
+  pairs-step (fails_in c.args.cells.now c.args.dist.now c.args.broken.now) _ _ _ _ c.loop-q.invariant.1 c.row-more.ensures.failing_value,
+)

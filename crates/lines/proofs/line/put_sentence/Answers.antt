@@ -5,19 +5,17 @@ use Rattle.text.specs.PutLaws.{put_then}
 use Rattle.lines.proofs.line.put_sentence.Goals as goal
 
 pub put_next-first-requires : goal.put_next-first-requires
-put_next-first-requires c = omega (arith, c.requires, decimal-most c.args.n)
+put_next-first-requires c = omega (arith, decimal-most c.args.n)
 
 pub put_symbols-second-requires : goal.put_symbols-second-requires
-put_symbols-second-requires c =
-    (c.requires.1, omega (arith, c.requires, decimal-most c.args.n, c.put_next-first.ensures.after, c.put_next-first.auto.out))
+put_symbols-second-requires c = (c.requires.1, omega (arith, decimal-most c.args.n))
 
 pub put-requires : goal.put-requires
-put-requires c =
-    omega (arith, c.requires, decimal-most c.args.n, c.put_next-first.ensures.after, c.put_next-first.auto.out, c.put_symbols-second.ensures.upper_bound, c.put_symbols-second.auto.out)
+put-requires c = omega (arith, decimal-most c.args.n)
 
 pub returns : goal.returns
 returns c =
     record {
       put = put_then (put_then c.put_next-first.ensures c.put_symbols-second.ensures.put) c.put.ensures;
-      upper_bound = omega (arith, c.requires, decimal-most c.args.n, c.put_next-first.ensures.after, c.put_symbols-second.ensures.upper_bound, c.put.ensures.after);
+      upper_bound = omega (arith, decimal-most c.args.n);
     }

@@ -1,5 +1,4 @@
 use mathlib.Core.Path.{◌≡◌}
-use Prim.Native.Nat.{◌-◌, ◌≤◌}
 use lib.ListN.{length}
 use Rattle.book.specs.Order.{place_in}
 use Rattle.book.specs.Tables.{tables_of}
@@ -7,7 +6,4 @@ use Rattle.lines.specs.StateLaws.{Lines}
 use Rattle.lines.proofs.state.put_state.Given as goal
 
 abbrev pub invariant-loop-z : goal.invariant-loop-z
-invariant-loop-z l = (l.z ≤ l.t) × (length l.sentence ≡ 1000) × Lines (place_in l.order) (tables_of l.cells) l.s l.initial.out l.at l.out l.next l.z
-
-abbrev pub decreases-loop-z : goal.decreases-loop-z
-decreases-loop-z l = l.t - l.z
+invariant-loop-z l = (length l.sentence ≡ 1000) × Lines (place_in l.order) (tables_of l.cells) l.s l.initial.out l.at l.out l.next l.z

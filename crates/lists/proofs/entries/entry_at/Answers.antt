@@ -1,11 +1,14 @@
 -- `lists::entries::entry_at` meets its contract: the length, then the rest. Assumes nothing.
+use Rattle.std.proofs.lemmas.Result.{err_from_is_err_and}
 use Rattle.lists.specs.Entry.{entry_at}
 use Rattle.lists.proofs.entries.entry_at.Goals as goal
 
-pub returns-in-Refused : goal.returns-in-Refused
+pub returns-in_err-len : goal.returns-in_err-len
 unfolding entry_at
-returns-in-Refused c = rw (← c.read.ensures, ← c.admit.ensures, c.in-Refused.is)
+returns-in_err-len c =
+    let p = err_from_is_err_and c.from_residual.result c.from_residual.ensures.1 in
+    rw (p.1, p.2) (rw (← c.read.ensures, ← c.in_err-len.ensures))
 
-pub returns-in-Value : goal.returns-in-Value
+pub returns : goal.returns
 unfolding entry_at
-returns-in-Value c = rw (← c.read.ensures, ← c.admit.ensures, c.in-Value.is) c.after_length.ensures
+returns c = rw (← c.read.ensures, ← c.in_ok-len.ensures) c.after_length.ensures

@@ -1,10 +1,8 @@
 -- `lists::index::nth_entry` meets its contract: the check, then the entry. Assumes nothing.
-use mathlib.Core.Path.{sym, ◌∙◌}
+use Rattle.std.proofs.Common.{sym}
+use Rattle.std.proofs.lemmas.Result.{err_from_is_err_and}
 use Rattle.lists.proofs.NthLaws.{nth-stop, nth_on}
 use Rattle.lists.proofs.index.nth_entry.Goals as goal
 
-pub returns-in-Refused : goal.returns-in-Refused
-returns-in-Refused c = nth-stop _ _ _ _ (sym c.check_list.ensures ∙ c.in-Refused.is)
-
-pub returns-in-Entries : goal.returns-in-Entries
-returns-in-Entries c = nth_on _ _ _ _ _ (sym c.check_list.ensures ∙ c.in-Entries.is) c.nth_from.ensures
+pub returns : goal.returns
+returns c = nth_on _ _ _ _ _ (sym c.in_ok-rest.ensures) c.nth_from.ensures

@@ -1,20 +1,16 @@
 -- `lists::list::entry_row` meets its contract: the list is followed entry by entry. Assumes nothing.
-use mathlib.Core.Path.{sym, ◌∙◌}
-use native.Mathlib.Omega.{arith}
-use Prim.Native.Nat.{◌-◌}
+use Rattle.std.proofs.Common.{sym}
+use Rattle.std.proofs.lemmas.Result.{err_from_is_err_and}
 use Rattle.lists.proofs.ListLaws.{list-passed-none, list-passed-more, passed-stop, passed-done}
 use Rattle.lists.proofs.list.entry_row.Goals as goal
 
-pub loop-i-init : goal.loop-i-init
-loop-i-init c = (omega arith, list-passed-none)
+pub returns-in_err-next : goal.returns-in_err-next
+returns-in_err-next c =
+    let p = err_from_is_err_and c.from_residual.result c.from_residual.ensures.1 in
+    rw (p.1, p.2) (passed-stop c.loop.invariant c.loop-test.true (sym c.in_err-next.ensures))
 
-pub returns-in-Refused : goal.returns-in-Refused
-returns-in-Refused c =
-    passed-stop c.loop-i.invariant.1 c.loop-i-test.true (sym c.entry_at.ensures ∙ c.in-Refused.is)
-
-pub loop-i-preserved : goal.loop-i-preserved
-loop-i-preserved c =
-    (omega arith, list-passed-more c.loop-i.invariant.1 c.loop-i-test.true (sym c.entry_at.ensures ∙ c.in-Found.is))
+pub loop-preserved : goal.loop-preserved
+loop-preserved c = list-passed-more c.loop.invariant c.loop-test.true (sym c.in_ok-next.ensures)
 
 pub returns : goal.returns
-returns c = passed-done c.loop-i.invariant.1 c.loop-i-test.false
+returns c = passed-done c.loop.invariant c.loop-test.false

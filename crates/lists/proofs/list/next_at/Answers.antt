@@ -7,10 +7,10 @@ pub returns-then-left-eq0 : goal.returns-then-left-eq0
 unfolding next_at
 returns-then-left-eq0 c = rw (eq-eqb _ _ c.if-left-eq0.true)
 
-pub returns-in-Refused : goal.returns-in-Refused
+pub returns-in-Err : goal.returns-in-Err
 unfolding next_at
-returns-in-Refused c = rw (ne_eqb _ _ c.if-left-eq0.false, ← c.entry_at.ensures, c.in-Refused.is)
+returns-in-Err c = rw (ne_eqb _ _ c.if-left-eq0.false, ← c.in-Err.ensures)
 
-pub returns-in-Found : goal.returns-in-Found
+pub returns-in-Ok : goal.returns-in-Ok
 unfolding next_at
-returns-in-Found c = rw (ne_eqb _ _ c.if-left-eq0.false, ← c.entry_at.ensures, c.in-Found.is)
+returns-in-Ok c = rw (ne_eqb _ _ c.if-left-eq0.false, ← c.in-Ok.ensures)

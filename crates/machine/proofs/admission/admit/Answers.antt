@@ -1,9 +1,8 @@
--- `machine::admission::admit` meets its contract: the book, then what is run on it. Assumes nothing.
-use mathlib.Core.Path.{sym, ◌∙◌}
+-- `machine::admission::admit` meets its contract: the book, then step by step what is run on it. Assumes nothing.
+use Rattle.std.proofs.lemmas.Result.{err_from_is_err_and}
+use Rattle.machine.specs.Run.{run_refusals}
 use Rattle.machine.proofs.admission.admit.Goals as goal
 
-pub returns-in-Refused : goal.returns-in-Refused
-returns-in-Refused c = rw (sym c.check.ensures ∙ c.in-Refused.is)
-
-pub returns-in-Valid : goal.returns-in-Valid
-returns-in-Valid c = rw (sym c.check.ensures ∙ c.in-Valid.is) c.admit_input.ensures
+pub returns : goal.returns
+unfolding run_refusals
+returns c = rw (← c.in_ok-d.ensures) (rw c.first_unsound-sound.ensures at c.admit.ensures)

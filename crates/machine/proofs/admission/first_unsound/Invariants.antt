@@ -5,7 +5,4 @@ use Rattle.machine.specs.Run.{sound_prefix}
 use Rattle.machine.proofs.admission.first_unsound.Given as goal
 
 abbrev pub invariant-loop-i : goal.invariant-loop-i
-invariant-loop-i l = (l.i ≤ length l.sentence) × (sound_prefix l.t l.sentence ≡ l.i + sound_prefix l.t (drop l.i l.sentence))
-
-abbrev pub decreases-loop-i : goal.decreases-loop-i
-decreases-loop-i l = length l.sentence - l.i
+invariant-loop-i l = sound_prefix l.t l.sentence ≡ l.i + sound_prefix l.t (drop l.i l.sentence)

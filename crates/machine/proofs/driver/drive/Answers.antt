@@ -1,5 +1,6 @@
 -- `machine::driver::drive` meets its contract: symbol by symbol, the run goes on as from its start. Assumes nothing.
 use mathlib.Core.List.{[], ◌∷◌}
+use Rattle.std.proofs.Common.{◌≡◌, sym, length}
 use Rattle.machine.specs.Run.{runs}
 use Prim.Native.Nat.{◌-◌}
 use native.Mathlib.Omega.{arith}
@@ -9,13 +10,6 @@ use Rattle.machine.specs.DrivingLaws.{driving-none, driving-more, driving-ended,
 use borrow.Author.Rules.{rules}
 use Rattle.machine.proofs.driver.drive.Goals as goal
 
-pub bounds-stack-0 : goal.bounds-stack-0
-bounds-stack-0 c = omega (arith, c.requires.in_bounds)
-
-pub loop-taken-init : goal.loop-taken-init
-loop-taken-init c =
-    (search rules, driving-none c.args.stack.now c.requires.holds.small.some-state c.requires.in_bounds)
-
 pub take_in-requires : goal.take_in-requires
 take_in-requires c =
     record {
@@ -23,10 +17,6 @@ take_in-requires c =
       stack_in = c.loop-taken.invariant.1.settled.stacked;
       a_lt_t = sound-at c.args.d.t c.args.sentence.now c.loop-taken.taken c.requires.sentence_value c.loop-taken-test.true;
     }
-
-pub clear-requires : goal.clear-requires
-clear-requires c =
-    let h = rw c.in-Ended.is at c.take_in.ensures in (h.1.stacked.most, h.1.stacked.room)
 
 pub returns-in-Ended : goal.returns-in-Ended
 returns-in-Ended c =
@@ -39,16 +29,9 @@ pub loop-taken-preserved : goal.loop-taken-preserved
 loop-taken-preserved c =
     let h = rw c.in-Depth.is at c.take_in.ensures in (search rules, driving-more c.loop-taken.invariant.1 (runs_by _ _) c.loop-taken-test.true h)
 
-pub finish-requires : goal.finish-requires
-finish-requires c =
-    record {
-      holds = c.requires.holds;
-      stack_in = c.loop-taken.invariant.1.settled.stacked;
-      z_lt_t = c.requires.z_lt_t;
-    }
-
 pub returns : goal.returns
 returns c =
     let x = c.args in
     let B = tables_of x.cells.now in
-    ran-set x.stack.now (runs B x.z x.sentence.now 0 (0 ∷ [])) (driving-done B x.z c.loop-taken.invariant.1 c.loop-taken-test.false c.finish.ensures)
+    let all : c.loop-taken.taken ≡ length x.sentence.now = omega (arith, c.loop-taken.auto.taken-end, c.loop-taken-test.false) in
+    ran-set x.stack.now (runs B x.z x.sentence.now 0 (0 ∷ [])) (driving-done B x.z c.loop-taken.invariant.1 c.loop-taken-test.false (rw (sym all) at c.finish.ensures))

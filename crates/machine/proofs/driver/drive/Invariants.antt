@@ -8,6 +8,3 @@ use Rattle.machine.proofs.driver.drive.Given as goal
 
 abbrev pub invariant-loop-taken : goal.invariant-loop-taken
 invariant-loop-taken l = (length l.stack ≡ length l.initial.stack) × Driving (runs (tables_of l.cells) l.z) l.d.s l.sentence l.initial.stack l.stack l.depth l.taken
-
-abbrev pub decreases-loop-taken : goal.decreases-loop-taken
-decreases-loop-taken l = length l.sentence - l.taken

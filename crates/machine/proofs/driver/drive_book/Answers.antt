@@ -5,10 +5,6 @@ use lib.Seq.{length-take-le}
 use Rattle.forms.proofs.FormsLaws.{plain-holds, plain-tables}
 use Rattle.machine.proofs.driver.drive_book.Goals as goal
 
-pub slice_bounds-drive-end : goal.slice_bounds-drive-end
-slice_bounds-drive-end c =
-    sym (length-take-le _ _ (omega (arith, c.plain_cells-n.ensures.1, c.plain_cells-n.auto.to)))
-
 pub drive-requires : goal.drive-requires
 drive-requires c =
     record {

@@ -4,17 +4,9 @@ use Rattle.book.specs.Tables.{tables_of}
 use Rattle.machine.specs.DrivingLaws.{fed-ended, fed-deep, fed-push}
 use Rattle.machine.proofs.driver.take_in.Goals as goal
 
-pub stop_at-requires : goal.stop_at-requires
-stop_at-requires c =
-    let h = rw c.in-Shift.is at c.reduce.ensures in (h.1.stacked.some, omega (arith, h.1.stacked.most, h.1.stacked.room))
-
 pub returns-then-n-ge-DEPTH : goal.returns-then-n-ge-DEPTH
 returns-then-n-ge-DEPTH c =
     let h = rw c.in-Shift.is at c.reduce.ensures in rw c.stop_at.ensures (fed-deep (tables_of c.args.cells.now) c.args.a c.args.taken c.args.depth h.0 h.1 c.if-n-ge-DEPTH.true)
-
-pub returns-in-Ended : goal.returns-in-Ended
-returns-in-Ended c =
-    let h = rw c.in-Ended.is at c.reduce.ensures in fed-ended (tables_of c.args.cells.now) c.args.a c.args.taken c.args.depth h.0 h.1
 
 pub returns-else-n-ge-DEPTH : goal.returns-else-n-ge-DEPTH
 returns-else-n-ge-DEPTH c =

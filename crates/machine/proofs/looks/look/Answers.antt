@@ -6,13 +6,6 @@ use native.Mathlib.Omega.{arith}
 use Rattle.machine.specs.StackLaws.{look-next, stack-reduce-below, stack-shift-below}
 use Rattle.machine.proofs.looks.look.Goals as goal
 
-pub action_at-requires : goal.action_at-requires
-action_at-requires c =
-    record {
-      holds = c.requires.holds;
-      q_lt_s = (c.requires.stack_in.states (c.args.depth - 1) (omega arith), c.requires.a_lt_t);
-    }
-
 pub reduction-requires : goal.reduction-requires
 reduction-requires c =
     record {

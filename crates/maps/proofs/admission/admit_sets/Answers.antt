@@ -4,4 +4,4 @@ use Rattle.maps.proofs.admission.admit_sets.Goals as goal
 
 pub returns : goal.returns
 unfolding sets_refusals
-returns c = cc
+returns c = rw c.work_cells.ensures at c.admit.ensures

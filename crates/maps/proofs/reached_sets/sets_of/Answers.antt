@@ -1,5 +1,5 @@
 -- `maps::reached_sets::sets_of` meets its contract: refused, or done. Assumes nothing.
-use mathlib.Core.Path.{sym, ◌∙◌}
+use mathlib.Core.Path.{sym}
 use Rattle.book.specs.CallLaws.{steps-none}
 use Rattle.book.proofs.TablesLaws.{accepted-book}
 use Rattle.maps.specs.MapLaws.{sets-admitted}
@@ -9,17 +9,10 @@ use Rattle.maps.proofs.reached_sets.sets_of.Goals as goal
 pub admit_sets-requires : goal.admit_sets-requires
 admit_sets-requires c = (accepted-book _ _ c.requires).small
 
-pub gather-requires : goal.gather-requires
-gather-requires c =
-    record {
-      accepted = c.requires;
-      d_in_bounds = sets-admitted _ _ _ _ (sym c.admit_sets.ensures ∙ c.in-Valid.is);
-    }
+pub gather-requires-clause-d_in_bounds : goal.gather-requires-clause-d_in_bounds
+gather-requires-clause-d_in_bounds c = sets-admitted _ _ _ _ (sym c.in_ok-admit_sets.ensures)
 
-pub returns-in-Refused : goal.returns-in-Refused
-returns-in-Refused c = rw (c.requires, sym c.admit_sets.ensures ∙ c.in-Refused.is)
-
-pub returns-in-Valid : goal.returns-in-Valid
-returns-in-Valid c =
-    let e = sym c.admit_sets.ensures ∙ c.in-Valid.is in
+pub returns : goal.returns
+returns c =
+    let e = sym c.in_ok-admit_sets.ensures in
     rw (c.requires, e, ← (steps-none _ e).0) (told-cleared c.gather.ensures.gathered c.gather.ensures.work_after)

@@ -1,5 +1,5 @@
 -- `maps::whole_map::map_of` meets its contract: refused, or done. Assumes nothing.
-use mathlib.Core.Path.{sym, ◌∙◌}
+use mathlib.Core.Path.{sym}
 use Rattle.book.specs.CallLaws.{steps-none}
 use Rattle.book.proofs.TablesLaws.{accepted-book}
 use Rattle.maps.specs.MapLaws.{map-admitted}
@@ -9,17 +9,10 @@ use Rattle.maps.proofs.whole_map.map_of.Goals as goal
 pub admit_map-requires : goal.admit_map-requires
 admit_map-requires c = (accepted-book _ _ c.requires).small
 
-pub fill-requires : goal.fill-requires
-fill-requires c =
-    record {
-      accepted = c.requires;
-      d_in_bounds = map-admitted _ _ _ (sym c.admit_map.ensures ∙ c.in-Valid.is);
-    }
+pub fill-requires-clause-d_in_bounds : goal.fill-requires-clause-d_in_bounds
+fill-requires-clause-d_in_bounds c = map-admitted _ _ _ (sym c.in_ok-admit_map.ensures)
 
-pub returns-in-Refused : goal.returns-in-Refused
-returns-in-Refused c = rw (c.requires, sym c.admit_map.ensures ∙ c.in-Refused.is)
-
-pub returns-in-Valid : goal.returns-in-Valid
-returns-in-Valid c =
-    let e = sym c.admit_map.ensures ∙ c.in-Valid.is in
+pub returns : goal.returns
+returns c =
+    let e = sym c.in_ok-admit_map.ensures in
     rw (c.requires, e, ← (steps-none _ e).0) (told-cleared c.fill.ensures.filled c.fill.ensures.work_after)

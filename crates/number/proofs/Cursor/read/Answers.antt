@@ -1,4 +1,5 @@
 -- `number::Cursor::read` meets its contract: each test picks a case of `first`. Assumes nothing.
+use Rattle.std.proofs.Common.{ap, Err}
 use borrow.Author.Tests.{lt-ltb, le-ltb}
 use lib.ListN.{drop_of_length-le}
 use Rattle.number.specs.Number.{number_at, first}
@@ -7,7 +8,7 @@ use Rattle.number.proofs.Cursor.read.Goals as goal
 
 pub returns-then-bytes-at : goal.returns-then-bytes-at
 unfolding number_at first
-returns-then-bytes-at c = rw (drop_of_length-le _ c.if-bytes-at.true) c.refused.ensures
+returns-then-bytes-at c = rw (drop_of_length-le _ c.if-bytes-at.true) (ap Err c.at.ensures)
 
 pub returns-then-a-lt128 : goal.returns-then-a-lt128
 unfolding number_at first

@@ -4,4 +4,4 @@ use Rattle.opening.proofs.opening.admit.Goals as goal
 
 pub returns : goal.returns
 unfolding listing_refusals
-returns c = cc
+returns c = rw c.work_cells.ensures at c.admit.ensures

@@ -1,7 +1,7 @@
 -- `pieces::pieces::measure` meets its contract: state by state, what is left of the room. Assumes nothing.
-use mathlib.Core.Path.{◌≡◌, sym}
+use mathlib.Core.Path.{sym}
 use native.Mathlib.Omega.{arith}
-use Prim.Native.Nat.{◌+◌, ◌-◌, ◌≤◌}
+use Prim.Native.Nat.{◌+◌}
 use lib.ListN.{get_or}
 use Rattle.sorting.specs.UpToLaws.{up-to-none, up-to-length, up-to-part}
 use Rattle.pieces.specs.Pieces.{piece_of}
@@ -11,7 +11,7 @@ use Rattle.pieces.proofs.pieces.measure.Goals as goal
 pub loop-s-init : goal.loop-s-init
 loop-s-init c =
     let a = c.args in
-    (omega arith, omega (arith, up-to-none (piece_of a.first.now a.places.now a.second.now a.others.now)), sym (count-zero _ _), omega arith)
+    (omega (arith, up-to-none (piece_of a.first.now a.places.now a.second.now a.others.now)), sym (count-zero _ _), omega arith)
 
 pub returns-then-left-n : goal.returns-then-left-n
 returns-then-left-n c =
@@ -21,25 +21,13 @@ returns-then-left-n c =
     omega (arith, c.piece_size-n.ensures, up-to-length (piece_of a.first.now a.places.now a.second.now a.others.now) s, most)
 
 pub overflow_add-count : goal.overflow_add-count
-overflow_add-count c =
-    let few-here : c.entry_count-count.result ≤ 1 = (let a = c.args in
-    let s = c.loop-s.s in
-    omega (arith, c.entry_count-count.ensures, count-few (get_or a.places.now s 0) (get_or a.others.now s 0))) in
-    omega (arith, few-here)
+overflow_add-count c = omega (arith, c.entry_count-count.ensures, count-few (get_or c.args.places.now c.loop-s.s 0) (get_or c.args.others.now c.loop-s.s 0))
 
 pub loop-s-preserved : goal.loop-s-preserved
 loop-s-preserved c =
-    let few-here : c.entry_count-count.result ≤ 1 = (let a = c.args in
-    let s = c.loop-s.s in
-    omega (arith, c.entry_count-count.ensures, count-few (get_or a.places.now s 0) (get_or a.others.now s 0))) in
     let a = c.args in
     let s = c.loop-s.s in (
-      omega arith,
       omega (arith, c.piece_size-n.ensures, up-to-length (piece_of a.first.now a.places.now a.second.now a.others.now) s),
       omega (arith, c.entry_count-count.ensures, count-more a.places.now a.others.now s),
-      omega (arith, few-here),
+      omega (arith, c.entry_count-count.ensures, count-few (get_or a.places.now s 0) (get_or a.others.now s 0)),
     )
-
-pub returns : goal.returns
-returns c =
-    let all : c.loop-s.s ≡ c.args.states = omega arith in (rw all at c.loop-s.invariant.1, rw all at c.loop-s.invariant.2)

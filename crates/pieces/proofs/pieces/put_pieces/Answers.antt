@@ -1,27 +1,14 @@
 -- `pieces::pieces::put_pieces` meets its contract: state by state. Assumes nothing.
-use mathlib.Core.Path.{◌≡◌}
-use native.Mathlib.Omega.{arith}
-use Prim.Native.Nat.{◌-◌}
 use Rattle.sorting.specs.UpToLaws.{put-none, put-fits, put-state}
 use Rattle.pieces.proofs.pieces.put_pieces.Goals as goal
 
 pub loop-s-init : goal.loop-s-init
-loop-s-init c = (omega arith, put-none)
+loop-s-init c = put-none
 
 pub put_piece-at-requires : goal.put_piece-at-requires
 put_piece-at-requires c =
-    let s = c in
-    put-fits c.args.states c.loop-s.invariant.1 c.loop-s-test.true c.requires.states_in_bounds
+    put-fits c.args.states c.loop-s.invariant c.loop-s-test.true c.requires.states_in_bounds
 
 pub loop-s-preserved : goal.loop-s-preserved
 loop-s-preserved c =
-    (omega arith, put-state _ _ c.loop-s.invariant.1 c.put_piece-at.ensures.value c.put_piece-at.ensures.out_after)
-
-pub returns : goal.returns
-returns c =
-    let all : c.loop-s.s ≡ c.args.states = omega arith in
-    let p = rw all at c.loop-s.invariant.1 in
-    record {
-      value = p.ahead;
-      out_after = p.put;
-    }
+    put-state _ _ c.loop-s.invariant c.put_piece-at.ensures.value c.put_piece-at.ensures.out_after

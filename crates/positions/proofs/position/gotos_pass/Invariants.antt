@@ -1,10 +1,7 @@
-use Prim.Native.Nat.{ℕ, ◌-◌, ◌≤◌, ◌<◌}
+use Prim.Native.Nat.{ℕ, ◌<◌}
 use Rattle.book.specs.Tables.{tables_of}
 use Rattle.positions.specs.Position.{BarredGoto}
 use Rattle.positions.proofs.position.gotos_pass.Given as goal
 
 abbrev pub invariant-loop-x : goal.invariant-loop-x
-invariant-loop-x l = (l.x ≤ l.m) × ((j : ℕ) → j < l.x → BarredGoto (tables_of l.cells) l.positions l.n l.q j)
-
-abbrev pub decreases-loop-x : goal.decreases-loop-x
-decreases-loop-x l = l.m - l.x
+invariant-loop-x l = (j : ℕ) → j < l.x → BarredGoto (tables_of l.cells) l.positions l.n l.q j

@@ -4,16 +4,9 @@ use Rattle.positions.specs.PositionLaws.{states-few, positions-kept, positions-s
 use Rattle.layers.specs.CrossingLaws.{states-are}
 use Rattle.positions.proofs.position.mark.Goals as goal
 
-pub returns-then-q-states : goal.returns-then-q-states
-returns-then-q-states c =
-    positions-kept c.args.k c.requires.positions (states-few c.requires.holds) (λ h. absurd (omega (arith, h, c.if-q-states.true, states-are c.requires.holds)))
-
-pub passes-requires : goal.passes-requires
-passes-requires c =
-    record {
-      holds = c.requires.holds;
-      n_bound = (omega (arith, c.requires.k_bound), c.if-q-states.false, c.requires.positions.size);
-    }
+pub returns-then-q-d : goal.returns-then-q-d
+returns-then-q-d c =
+    positions-kept c.args.k c.requires.positions (states-few c.requires.holds) (λ h. absurd (omega (arith, h, c.if-q-d.true, states-are c.requires.holds)))
 
 pub returns-then-not-passes : goal.returns-then-not-passes
 returns-then-not-passes c =

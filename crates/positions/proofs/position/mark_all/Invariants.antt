@@ -1,10 +1,6 @@
-use Prim.Native.Nat.{◌≤◌}
 use Rattle.book.specs.Tables.{tables_of}
 use Rattle.positions.specs.Position.{Positions}
 use Rattle.positions.proofs.position.mark_all.Given as goal
 
 abbrev pub invariant-loop-k : goal.invariant-loop-k
-invariant-loop-k l = (l.k ≤ 4096) × Positions l.whole (tables_of l.cells) l.k l.positions
-
-abbrev pub decreases-loop-k : goal.decreases-loop-k
-decreases-loop-k l = l.k
+invariant-loop-k l = Positions l.whole (tables_of l.cells) l.k l.positions

@@ -1,4 +1,4 @@
-use Prim.Native.Nat.{◌-◌, ◌≤◌}
+use Prim.Native.Nat.{◌-◌}
 use Rattle.book.specs.Tables.{tables_of}
 use Rattle.walk.specs.Scale.{plain}
 use Rattle.layers.specs.Crossing.{claim_in}
@@ -9,7 +9,4 @@ use Rattle.roads.specs.Roads.{ExceededAt}
 use Rattle.roads.proofs.reduction.compare_layer.Given as goal
 
 abbrev pub invariant-loop-i : goal.invariant-loop-i
-invariant-loop-i l = (l.i ≤ l.count) × Lowered (Among l.i (λ j. Among l.d.t (λ z. ExceededAt l.d (tables_of l.cells) (claim_in l.d l.table) l.q l.a l.m (listed_in l.flags j) z (value_in plain l.values l.flags (listed_in l.flags j) z)))) l.lowest l.low
-
-abbrev pub decreases-loop-i : goal.decreases-loop-i
-decreases-loop-i l = l.count - l.i
+invariant-loop-i l = Lowered (Among l.i (λ j. Among l.d.t (λ z. ExceededAt l.d (tables_of l.cells) (claim_in l.d l.table) l.q l.a l.m (listed_in l.flags j) z (value_in plain l.values l.flags (listed_in l.flags j) z)))) l.lowest l.low

@@ -5,7 +5,4 @@ use Rattle.waiting.specs.Waiting.{event_in}
 use Rattle.search.proofs.settle.column_waiting.Given as goal
 
 abbrev pub invariant-loop-c : goal.invariant-loop-c
-invariant-loop-c l = (l.c ≤ l.t) × ((k : ℕ) → k < l.c → get_or l.done (l.x * 32 + k) 0 ≤ event_in plain l.events (l.at * 32 + l.x) k)
-
-abbrev pub decreases-loop-c : goal.decreases-loop-c
-decreases-loop-c l = l.t - l.c
+invariant-loop-c l = ((k : ℕ) → k < l.c → get_or l.done (l.x * 32 + k) 0 ≤ event_in plain l.events (l.at * 32 + l.x) k)

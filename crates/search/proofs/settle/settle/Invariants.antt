@@ -11,7 +11,7 @@ use Rattle.layers.specs.Total.{total}
 use Rattle.search.proofs.settle.settle.Given as goal
 
 abbrev pub invariant-loop-i : goal.invariant-loop-i
-invariant-loop-i l = SearchRoom l.values l.next l.events l.done × Follows plain (tables_of l.cells) (claim_in l.d l.table) (end_cost (tables_of l.cells) l.left l.len (entry_in l.togo) (layer_in l.due)) l.r l.q l.at (reverse (take l.kept l.stack)) (event_in plain l.initial.events) (event_in plain l.events) l.done × NextWaiting l.t l.at l.end (event_in plain l.events) l.done l.i
+invariant-loop-i l = SearchRoom l.values l.next l.events l.done × Follows plain (tables_of l.cells) (claim_in l.d l.table) (end_cost (tables_of l.cells) l.left l.len (entry_in l.togo) (layer_in l.due)) l.r l.q l.at (reverse (take l.kept l.stack)) (event_in plain l.initial.events) (event_in plain l.events) l.done × NextWaiting l.d.t l.at l.end (event_in plain l.events) l.done l.i
 
 abbrev pub decreases-loop-i : goal.decreases-loop-i
 decreases-loop-i l = total l.done

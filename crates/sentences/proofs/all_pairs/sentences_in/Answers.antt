@@ -1,8 +1,8 @@
 -- `sentences::all_pairs::sentences_in` meets its contract: refused, or done. Assumes nothing.
+use mathlib.Core.Path.{sym}
 use Rattle.book.specs.CallLaws.{steps-none}
 use Rattle.book.proofs.TablesLaws.{accepted-book}
 use Rattle.sentences.proofs.PartsLaws.{sentences-admitted, all_told}
-use mathlib.Core.Path.{sym, ◌∙◌}
 use Rattle.sentences.proofs.all_pairs.sentences_in.Goals as goal
 
 pub admit-requires : goal.admit-requires
@@ -12,13 +12,10 @@ pub solve-requires : goal.solve-requires
 solve-requires c =
     record {
       accepted = c.requires;
-      d_in_bounds = sentences-admitted _ _ _ _ (sym c.admit.ensures ∙ c.in-Valid.is);
+      d_in_bounds = sentences-admitted _ _ _ _ (sym c.in_ok-admit.ensures);
     }
 
-pub returns-in-Refused : goal.returns-in-Refused
-returns-in-Refused c = rw (c.requires, sym c.admit.ensures ∙ c.in-Refused.is)
-
-pub returns-in-Valid : goal.returns-in-Valid
-returns-in-Valid c =
-    let e = sym c.admit.ensures ∙ c.in-Valid.is in
+pub returns : goal.returns
+returns c =
+    let e = sym c.in_ok-admit.ensures in
     rw (c.requires, e, ← (steps-none _ e).0) (all_told _ _ c.args.d _ c.solve.ensures.all_put c.solve.ensures.work_after)

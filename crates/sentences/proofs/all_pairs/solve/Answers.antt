@@ -3,14 +3,7 @@ use Rattle.book.specs.Tables.{rank_of}
 use Rattle.forms.proofs.FormsLaws.{plain-holds, plain-tables}
 use Rattle.layers.specs.CrossingLaws.{terminals-are}
 use Rattle.sentences.proofs.PartsLaws.{all-rank}
-use lib.Seq.{length-take-le}
-use mathlib.Core.Path.{sym}
-use native.Mathlib.Omega.{arith}
 use Rattle.sentences.proofs.all_pairs.solve.Goals as goal
-
-pub slice_bounds-solve_plain-end : goal.slice_bounds-solve_plain-end
-slice_bounds-solve_plain-end c =
-    sym (length-take-le _ _ (omega (arith, c.plain_cells-n.ensures.1, c.plain_cells-n.auto.to)))
 
 pub solve_plain-requires : goal.solve_plain-requires
 solve_plain-requires c =

@@ -4,18 +4,6 @@ use Rattle.work.specs.WorkLaws.{work-cleared}
 use native.Mathlib.Nat.{le_trans}
 use Rattle.sentences.proofs.all_pairs.solve_plain.Goals as goal
 
-pub put_pairs-count-requires : goal.put_pairs-count-requires
-put_pairs-count-requires c =
-    let p = c.requires in
-    let costs = c.costs_in.ensures in
-    record {
-      holds = p.holds;
-      crossing_table = costs.crossing_table;
-      arranged = p.arranged;
-      cost_table = costs.cost_table;
-      t_in_bounds = (p.d_in_bounds.1, p.d_in_bounds.2);
-    }
-
 pub returns : goal.returns
 returns c =
     let p = c.requires in

@@ -3,27 +3,9 @@ use Rattle.book.specs.Order.{place_in}
 use Rattle.book.specs.Tables.{tables_of}
 use Rattle.finder.specs.FittingLaws.{answered-fits}
 use Rattle.layers.specs.CrossingLaws.{terminals-are}
-use Rattle.sentences.proofs.PartsLaws.{pair-none, pair_found}
+use Rattle.sentences.proofs.PartsLaws.{pair_found}
 use native.Mathlib.Omega.{arith}
 use Rattle.sentences.proofs.pairs.put_pair.Goals as goal
-
-pub returns-then-n-ge-LONG : goal.returns-then-n-ge-LONG
-returns-then-n-ge-LONG c =
-    let a = c.args in
-    record {
-      pair_put = pair-none a.breaks (place_in a.order.now) (tables_of a.cells.now) a.s a.z c.requires.exact c.if-n-ge-LONG.true;
-      upper_bound = omega arith;
-    }
-
-pub answer-found-requires : goal.answer-found-requires
-answer-found-requires c =
-    let p = c.requires in
-    record {
-      holds = p.holds;
-      crossing_table = p.crossing_table;
-      arranged = p.arranged;
-      s_lt_s = (p.s_lt_s.0, p.s_lt_s.1, p.s_lt_s.2);
-    }
 
 pub put_found-requires : goal.put_found-requires
 put_found-requires c =

@@ -3,7 +3,6 @@ use Rattle.number.specs.Number.{written}
 use Rattle.number.specs.NumberLaws.{written-few}
 use Rattle.text.specs.PutLaws.{put_then}
 use lib.Seq.{length-take-le}
-use mathlib.Core.Path.{sym}
 use native.Mathlib.Omega.{arith}
 use Rattle.sentences.proofs.pairs.put_sentence.Goals as goal
 
@@ -14,9 +13,6 @@ write-next-requires c =
       n_bound = omega (arith, p.0);
       n_in_bounds = omega (arith, p.2, written-few c.args.n (omega (arith, p.0)));
     }
-
-pub slice_bounds-put-end : goal.slice_bounds-put-end
-slice_bounds-put-end c = sym (length-take-le _ _ c.requires.1)
 
 pub put-requires : goal.put-requires
 put-requires c =

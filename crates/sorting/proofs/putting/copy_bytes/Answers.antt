@@ -1,20 +1,16 @@
--- `sorting::putting::copy_bytes` meets its contract: byte by byte. Assumes nothing.
-use mathlib.Core.Path.{◌≡◌, refl}
+-- `sorting::putting::copy_bytes` meets its contract: the part is written over one as long. Assumes nothing.
+use mathlib.Core.Path.{◌≡◌}
+use native.Mathlib.Nat.{add-sub_cancel_left}
 use native.Mathlib.Omega.{arith}
-use Prim.Native.Nat.{◌-◌}
-use lib.ListN.{length-set}
-use Rattle.sorting.specs.PutLaws.{put_byte}
+use lib.ListN.{length, drop, length-drop}
+use lib.Seq.{length-take-le}
+use Rattle.lists.specs.Entry.{part}
+use Rattle.sorting.specs.PutLaws.{put-part}
 use Rattle.sorting.proofs.putting.copy_bytes.Goals as goal
-
-pub loop-i-init : goal.loop-i-init
-loop-i-init c = (omega arith, refl, refl)
-
-pub loop-i-preserved : goal.loop-i-preserved
-loop-i-preserved c =
-    let a = c.args in
-    let inv = c.loop-i.invariant in
-    (omega arith, rw inv.1 (put_byte a.from.now a.to.now a.start a.at c.loop-i.i (omega arith)), simp length-set inv.2)
 
 pub returns : goal.returns
 returns c =
-    let all : c.loop-i.i ≡ c.args.n = omega arith in rw all at c.loop-i.invariant.1
+    let a = c.args in
+    let same : c.copy_from_slice.new.self ≡ part a.from.now a.start a.n = rw add-sub_cancel_left at c.copy_from_slice.ensures.after in
+    let long : length (part a.from.now a.start a.n) ≡ a.n = length-take-le a.n (drop a.start a.from.now) (rw length-drop (omega arith)) in
+    rw (add-sub_cancel_left, same) (put-part (part a.from.now a.start a.n) a.to.now a.at a.n long (omega arith))

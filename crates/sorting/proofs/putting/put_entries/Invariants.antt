@@ -1,11 +1,7 @@
-use Prim.Native.Nat.{◌-◌, ◌≤◌}
 use lib.ListN.{get_or}
 use Rattle.items.specs.SpanLaws.{span_at}
 use Rattle.sorting.specs.UpToLaws.{PutUpTo}
 use Rattle.sorting.proofs.putting.put_entries.Given as goal
 
 abbrev pub invariant-loop-s : goal.invariant-loop-s
-invariant-loop-s l = (l.s ≤ l.states) × PutUpTo (λ q. span_at l.list (get_or l.places q 0)) l.start l.initial.out l.s l.at l.out
-
-abbrev pub decreases-loop-s : goal.decreases-loop-s
-decreases-loop-s l = l.states - l.s
+invariant-loop-s l = PutUpTo (λ q. span_at l.list (get_or l.places q 0)) l.start l.initial.out l.s l.at l.out

@@ -1,13 +1,8 @@
 -- `sorting::sort::put_list` meets its contract: the count, then the entries. Assumes nothing.
 use native.Mathlib.Omega.{arith}
-use Rattle.sorting.proofs.SortLaws.{list-short, list_put}
+use Rattle.sorting.proofs.SortLaws.{list_put}
 use Rattle.sorting.specs.UpTo.{spans_to}
 use Rattle.sorting.proofs.sort.put_list.Goals as goal
-
-pub returns-then-out-n : goal.returns-then-out-n
-returns-then-out-n c =
-    let a = c.args in
-    list-short a.list.now (spans_to a.list.now a.places.now a.states) a.out.now a.first c.requires.states_value c.if-out-n.true
 
 pub returns : goal.returns
 returns c =

@@ -1,17 +1,18 @@
--- `text::pieces::put` meets its contract: byte by byte. Assumes nothing.
-use mathlib.Core.Path.{refl}
-use Prim.Native.Nat.{◌-◌}
-use native.Mathlib.Nat.{le_antisymm}
+-- `text::pieces::put` meets its contract: all bytes at once. Assumes nothing.
+use Prim.Native.Nat.{◌+◌, ◌-◌}
+use mathlib.Core.Path.{◌≡◌, refl}
+use mathlib.Core.List.{append_assoc}
+use lib.ListN.{length}
 use native.Mathlib.Omega.{arith}
-use Rattle.text.specs.PutLaws.{word-copied-none, word-copied-more, copied-done}
+use lib.Seq.{drop-drop}
+use Rattle.std.proofs.lemmas.List.Edits.{sets-eq}
 use Rattle.text.proofs.pieces.put.Goals as goal
-
-pub loop-i-init : goal.loop-i-init
-loop-i-init c = (omega arith, word-copied-none)
-
-pub loop-i-preserved : goal.loop-i-preserved
-loop-i-preserved c = (omega arith, word-copied-more c.loop-i.invariant.1 c.loop-i-test.true)
 
 pub returns : goal.returns
 returns c =
-    copied-done c.loop-i.invariant.1 (le_antisymm c.loop-i.invariant.0 c.loop-i-test.false) refl
+    let n = length c.args.word.now in
+    let back : c.args.at + n - c.args.at ≡ n = omega arith in
+    record {
+      stored = rw (c.copy_from_slice.ensures.after, back, drop-drop n c.args.at c.args.out.now, sets-eq c.args.word.now c.args.out.now c.args.at c.requires, append_assoc);
+      after = refl;
+    }

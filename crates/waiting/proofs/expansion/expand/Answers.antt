@@ -6,43 +6,23 @@ use Rattle.waiting.specs.Pending.{Pending}
 use Rattle.waiting.specs.ExpandLaws.{holds-narrow, layer-begun, step-first, expands-more, expands-skipped, expands-all}
 use Rattle.waiting.proofs.expansion.expand.Goals as goal
 
-pub returns-then-rows-g-eq0 : goal.returns-then-rows-g-eq0
-returns-then-rows-g-eq0 c =
+pub returns-then-rows-g-eq0-clause-table_step : goal.returns-then-rows-g-eq0-clause-table_step
+returns-then-rows-g-eq0-clause-table_step c =
     let p = c.requires in
     let a = c.args in
     let o = c.pop_at.ensures in
-    record {
-      scratch_2 = (p.scratch.0, o.events_len_2);
-      table_step = expands-all a.at (expands-more a.at (step-first a.at (omega (arith, p.g_lt_s.3)) (terminal p.usable.fitted.holds p.g_lt_s.1) o.table_step) (expands-skipped a.at (omega (arith, p.g_lt_s.3)) p.usable.skips c.if-rows-g-eq0.true));
-    }
+    expands-all a.at (expands-more a.at (step-first a.at (omega (arith, p.g_lt_s.3)) (terminal p.usable.fitted.holds p.g_lt_s.1) o.table_step) (expands-skipped a.at (omega (arith, p.g_lt_s.3)) p.usable.skips c.if-rows-g-eq0.true))
 
-pub begin-requires : goal.begin-requires
-begin-requires c =
+pub expand_after-requires-clause-scratch : goal.expand_after-requires-clause-scratch
+expand_after-requires-clause-scratch c =
     let p = c.requires in
-    record {
-      values_len = p.scratch.0.first;
-      q_bound = (omega (arith, p.g_lt_s.0, p.usable.fitted.holds.small.states), omega (arith, p.g_lt_s.1, p.usable.fitted.holds.small.terminals));
-    }
+    (record { first = (c.begin.ensures.by_index _ p.g_lt_s.0).size; second = p.scratch.0.second }, c.pop_at.ensures.events_len_2, (c.begin.ensures.by_index _ p.g_lt_s.0).listed)
 
-pub expand_after-requires : goal.expand_after-requires
-expand_after-requires c =
-    let p = c.requires in
-    let e = c.rest-bound.ensures in
-    record {
-      usable = p.usable;
-      at_bound = (p.g_lt_s.2, p.g_lt_s.3, e.0, e.1);
-      pends = p.pends;
-      scratch = (record { first = (c.begin.ensures.by_index _ p.g_lt_s.0).size; second = p.scratch.0.second }, c.pop_at.ensures.events_len_2, (c.begin.ensures.by_index _ p.g_lt_s.0).listed);
-    }
-
-pub returns : goal.returns
-returns c =
+pub returns-clause-table_step : goal.returns-clause-table_step
+returns-clause-table_step c =
     let p = c.requires in
     let a = c.args in
     let e = c.expand_after.ensures in
     let ha = terminal p.usable.fitted.holds p.g_lt_s.1 in
     let first = layer-where (Pending a.pending.now c.rest-bound.result) (layer-begun (holds-narrow p.usable.fitted.holds).terminals ha c.begin.ensures.begun) in
-    record {
-      scratch_2 = e.scratch_2;
-      table_step = expands-all a.at (expands-more a.at (step-first a.at (omega (arith, p.g_lt_s.3)) ha c.pop_at.ensures.table_step) (e.by_index a.g a.a first));
-    }
+    expands-all a.at (expands-more a.at (step-first a.at (omega (arith, p.g_lt_s.3)) ha c.pop_at.ensures.table_step) (e.by_index a.g a.a first))

@@ -1,4 +1,4 @@
-use Prim.Native.Nat.{◌-◌, ◌≤◌}
+use Prim.Native.Nat.{◌-◌}
 use lib.ListN.{length}
 use mathlib.Core.Path.{◌≡◌}
 use Rattle.book.specs.Tables.{tables_of}
@@ -10,7 +10,4 @@ use Rattle.waiting.specs.Waiting.{event_in, ReducesState}
 use Rattle.waiting.proofs.expansion.pop_layer.Given as goal
 
 abbrev pub invariant-loop-i : goal.invariant-loop-i
-invariant-loop-i l = (l.i ≤ l.n) × (length l.events ≡ 33824) × TableStep plain (Upto (λ j. ReducesState plain l.d (tables_of l.cells) l.at l.m l.r l.v (value_in plain l.values l.on) (listed_in l.on j)) l.i) (event_in plain l.initial.events) (event_in plain l.events)
-
-abbrev pub decreases-loop-i : goal.decreases-loop-i
-decreases-loop-i l = l.n - l.i
+invariant-loop-i l = (length l.events ≡ 33824) × TableStep plain (Upto (λ j. ReducesState plain l.d (tables_of l.cells) l.at l.m l.r l.v (value_in plain l.values l.on) (listed_in l.on j)) l.i) (event_in plain l.initial.events) (event_in plain l.events)

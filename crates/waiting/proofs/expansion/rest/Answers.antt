@@ -6,10 +6,6 @@ use Rattle.waiting.proofs.expansion.rest.Goals as goal
 pub returns-then-r-ge-LONG : goal.returns-then-r-ge-LONG
 returns-then-r-ge-LONG c = (omega arith, allows-all (omega (arith, c.requires)) (omega (arith, c.requires)))
 
-pub returns-then-v-r : goal.returns-then-v-r
-returns-then-v-r c =
-    (omega (arith, c.requires), allows-within (omega (arith, c.if-r-ge-LONG.false)) (omega arith))
-
-pub returns-else-v-r : goal.returns-else-v-r
-returns-else-v-r c =
-    (omega arith, allows-within (omega (arith, c.if-r-ge-LONG.false)) (omega (arith, c.if-v-r.false)))
+pub returns : goal.returns
+returns c =
+    (omega (arith, c.requires, c.saturating_sub.ensures), allows-within (omega (arith, c.if-r-ge-LONG.false)) (omega (arith, c.saturating_sub.ensures)))

@@ -4,8 +4,5 @@ use Rattle.book.specs.Tables.{tables_of}
 use Rattle.within.proofs.ReachingLaws.{Coming}
 use Rattle.within.proofs.reaching.comes.Given as goal
 
-abbrev pub invariant-loop-stack : goal.invariant-loop-stack
-invariant-loop-stack l = (length l.stack ≡ length l.initial.stack) × Coming (tables_of l.cells) l.d.s l.z l.s l.initial.stack l.stack l.depth l.n l.left
-
-abbrev pub decreases-loop-stack : goal.decreases-loop-stack
-decreases-loop-stack l = l.left
+abbrev pub invariant-loop : goal.invariant-loop
+invariant-loop l = (length l.stack ≡ length l.initial.stack) × Coming (tables_of l.cells) l.d.s l.z l.s l.initial.stack l.stack l.depth l.n l.counter

@@ -1,5 +1,4 @@
 use mathlib.Core.Path.{◌≡◌}
-use Prim.Native.Nat.{◌-◌}
 use lib.ListN.{length}
 use Rattle.book.specs.Tables.{tables_of}
 use Rattle.machine.specs.DrivingLaws.{Driving}
@@ -8,6 +7,3 @@ use Rattle.within.proofs.reaching.reaches.Given as goal
 
 abbrev pub invariant-loop-taken : goal.invariant-loop-taken
 invariant-loop-taken l = (length l.stack ≡ length l.initial.stack) × Driving (brings (tables_of l.cells) l.z l.s) l.d.s l.sentence l.initial.stack l.stack l.depth l.taken
-
-abbrev pub decreases-loop-taken : goal.decreases-loop-taken
-decreases-loop-taken l = length l.sentence - l.taken

@@ -1,8 +1,0 @@
-use Rattle.std.proofs.Common.{◌-◌, ◌≤◌}
-use Rattle.agreement_test.proofs.verdicts.members.Given as goal
-
-abbrev pub invariant-loop-z : goal.invariant-loop-z
-invariant-loop-z l = (l.n ≤ l.z) × (l.z ≤ 8)
-
-abbrev pub decreases-loop-z : goal.decreases-loop-z
-decreases-loop-z l = 8 - l.z
