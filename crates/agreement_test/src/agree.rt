@@ -124,10 +124,10 @@ fn too_large() -> Tally {
 
 // A book, and which of the library's answers is changed before it is compared.
 pub fn book(cells: &[u16], what: Wrong) -> Tally {
-    let t = tables::wide(tables::number_at(cells, 1));
-    let n = tables::wide(tables::number_at(cells, 2));
-    let s = tables::wide(tables::number_at(cells, 3));
-    let p = tables::wide(tables::number_at(cells, 4));
+    let t = usize::from(tables::number_at(cells, 1));
+    let n = usize::from(tables::number_at(cells, 2));
+    let s = usize::from(tables::number_at(cells, 3));
+    let p = usize::from(tables::number_at(cells, 4));
     trial::label(b" terminals ", t);
     trial::label(b" nonterminals ", n);
     trial::label(b" states ", s);

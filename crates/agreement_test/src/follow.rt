@@ -16,7 +16,7 @@ pub struct Course {
 const MOST: usize = 2000;
 
 fn with(set: u32, q: u16) -> u32 {
-    let i = tables::wide(q);
+    let i = usize::from(q);
     if i < 32 { set | (1u32 << i) } else { set }
 }
 

@@ -3,7 +3,6 @@
 ghost use Rattle.std.specs.Prelude.{IfSome, ◌+◌, ◌<◌, ◌≤◌};
 
 use crate::pops::UNREACHED;
-use crate::tables;
 use crate::verdicts::{self, Verdict};
 use crate::wrong::{self, Wrong};
 use course::Judgement;
@@ -53,7 +52,7 @@ fn length_of(least: &[u16; 256], k: usize) -> usize
     requires { k < 256 }
     ensures { result ≤ 100 }
 {
-    tables::wide(least[k]).min(100)
+    usize::from(least[k]).min(100)
 }
 
 fn put_symbols(words: &[u8; 262144], start: usize, n: usize, list: &mut [u8; ROOM], at: usize)
@@ -164,7 +163,7 @@ pub fn state_of(cells: &[u16], list: &[u8]) -> Result<Option<usize>, Fault> {
     let mut work = [0u16; 32768];
     let mut stack = [0u16; 1024];
     match judgement::judge(cells, list, &mut work, &mut stack) {
-        Ok(Judgement::Uncovered(s)) => Ok(Some(tables::wide(s))),
+        Ok(Judgement::Uncovered(s)) => Ok(Some(usize::from(s))),
         Ok(Judgement::Complete) => Ok(None),
         _ => Err(Fault),
     }

@@ -49,12 +49,15 @@ fn deep() {
     empty_run(&cells);
 }
 
+// What is told of a judgement that is neither.
+const NO_STATE: usize = 65535;
+
 fn judged(name: &[u8], cells: &[u16], list: &[u8]) {
     trial::text(name);
     match state_of(cells, list) {
         Ok(None) => trial::text(b" complete"),
         Ok(Some(s)) => trial::label(b" uncovered, state ", s),
-        Err(_) => trial::label(b" uncovered, state ", 65535),
+        Err(_) => trial::label(b" uncovered, state ", NO_STATE),
     }
     trial::text(b"\n");
 }

@@ -75,7 +75,7 @@ fn go(tables: &[u16; 768], over: &mut [u16; 65536], x: usize, a: usize, y: usize
     let Some(q) = tables::goto_of(tables, (x / 8) as u16, a as u16) else {
         return false;
     };
-    let q = tables::wide(q);
+    let q = usize::from(q);
     q < 32 && lower_over(over, x, q * 8 + y, v)
 }
 
@@ -117,13 +117,13 @@ fn begin(tables: &[u16; 768], t: usize, over: &mut [u16; 65536], pops: &mut [u16
 {
     match tables::action_of(tables, x) {
         Act::Shift(q) => {
-            let q = tables::wide(q);
+            let q = usize::from(q);
             if q < 32 {
                 begin_shift(over, x, q, t);
             }
         }
         Act::Reduce(p) => {
-            let a = tables::wide(tables::left_side(tables, p));
+            let a = usize::from(tables::left_side(tables, p));
             begin_reduction(tables, over, pops, x, a, tables::length_of(tables, p));
         }
         _ => {}

@@ -126,22 +126,6 @@ fn try_each(
     }
 }
 
-// The first n symbols of the word.
-fn try_word(
-    tables: &[u16; 768],
-    breaks: bool,
-    t: usize,
-    stack: &mut [u16; 4096],
-    word: &[u8; 1000],
-    n: usize,
-    least: &mut [u16; 256],
-    words: &mut [u8; 262144],
-)
-    requires { (t ≤ 8) × (n ≤ 1000) }
-{
-    try_each(tables, breaks, t, stack, &word[..n], least, words);
-}
-
 // Raises a symbol, or sets it back to 1 where it is the last terminal. Answers whether it was raised.
 fn raise(word: &mut [u8; 1000], i: usize, last: u8) -> bool
     requires { i < 1000 }
@@ -194,7 +178,7 @@ pub fn try_all(
         if n > 1000 {
             return n;
         }
-        try_word(tables, breaks, t, &mut stack, &word, n, least, words);
+        try_each(tables, breaks, t, &mut stack, &word[..n], least, words);
         if t == 1 {
             // There is no sentence but the empty one.
             return 1002;

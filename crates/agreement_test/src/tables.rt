@@ -6,12 +6,6 @@ const GOTOS: usize = 256;
 
 const PRODUCTIONS: usize = 512;
 
-pub fn wide(v: u16) -> usize
-    ensures { result < 65536 }
-{
-    v as usize
-}
-
 // The number at a place, 0 past the end.
 pub fn number_at(cells: &[u16], at: usize) -> u16 {
     if at < cells.len() { cells[at] } else { 0 }
@@ -70,7 +64,7 @@ pub enum Act {
 }
 
 pub fn action(tables: &[u16; 768], q: u16, a: usize) -> Act {
-    let code = entry(tables, 0, wide(q), a);
+    let code = entry(tables, 0, usize::from(q), a);
     if code == 0 {
         return Act::Error;
     }
@@ -105,13 +99,13 @@ pub fn reduces(tables: &[u16; 768], k: usize) -> bool
 }
 
 pub fn goto_of(tables: &[u16; 768], q: u16, x: u16) -> Option<u16> {
-    entry(tables, GOTOS, wide(q), wide(x)).checked_sub(1)
+    entry(tables, GOTOS, usize::from(q), usize::from(x)).checked_sub(1)
 }
 
 pub fn left_side(tables: &[u16; 768], p: u16) -> u16 {
-    entry(tables, PRODUCTIONS, wide(p), 0)
+    entry(tables, PRODUCTIONS, usize::from(p), 0)
 }
 
 pub fn length_of(tables: &[u16; 768], p: u16) -> usize {
-    wide(entry(tables, PRODUCTIONS, wide(p), 1))
+    usize::from(entry(tables, PRODUCTIONS, usize::from(p), 1))
 }

@@ -49,7 +49,7 @@ fn fits(cells: &[u16; 256], least: &[u16; 256], k: usize, tried: usize) -> bool
     requires { k < 256 }
 {
     if least[k] == NONE {
-        tables::wide(cells[k]) >= tried
+        usize::from(cells[k]) >= tried
     } else {
         cells[k] == least[k]
     }
@@ -82,7 +82,7 @@ fn length_at(least: &[u16; 256], k: usize) -> usize
     requires { k < 256 }
     ensures { result ≤ 1000 }
 {
-    let n = tables::wide(least[k]);
+    let n = usize::from(least[k]);
     if n > 1000 { 0 } else { n }
 }
 
@@ -110,7 +110,7 @@ fn sound(
 ) -> bool
     requires { k < 256 }
 {
-    let n = tables::wide(lengths[k]);
+    let n = usize::from(lengths[k]);
     n > 1000 || brings(tables, breaks, k, theirs, k * 1024, n)
 }
 

@@ -38,8 +38,8 @@ fn judge_in(cells: &[u16], list: &[u8], work: &mut [u16], stack: &mut [u16]) {
     let mut answer = [0u64; 8];
     purlquartz_judge(cells, list, work, stack, &mut answer);
     say::answer(b"judge", &answer);
-    say::cells(work);
-    say::cells(stack);
+    say::numbers(work);
+    say::numbers(stack);
 }
 
 fn judge(args: &[u32], cells: &[u16], list: &[u8]) {
@@ -54,7 +54,7 @@ fn sort_list_to(cells: &[u16], list: &[u8], out: &mut [u8]) {
     let mut answer = [0u64; 8];
     purlquartz_sort_list(cells, list, out, &mut answer);
     say::answer(b"sort_list", &answer);
-    say::bytes(out);
+    say::numbers(out);
 }
 
 fn sort_list(args: &[u32], cells: &[u16], list: &[u8]) {

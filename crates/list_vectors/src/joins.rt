@@ -14,7 +14,7 @@ fn join_lists_to(cells: &[u16], first: &[u8], second: &[u8], out: &mut [u8]) {
     let mut answer = [0u64; 8];
     purlquartz_join_lists(cells, first, second, out, &mut answer);
     say::answer(b"join_lists", &answer);
-    say::bytes(out);
+    say::numbers(out);
 }
 
 fn join_lists(args: &[u32], cells: &[u16], bytes: &[u8]) {

@@ -7,12 +7,6 @@
 // alone, 1 to the second alone, 2 to both, 3 to none. With base b the first b^n splits are all splits of lists of n entries.
 ghost use Rattle.std.specs.Prelude.{◌≤◌, ◌<◌};
 
-fn wide(v: u8) -> usize
-    ensures { result < 256 }
-{
-    v as usize
-}
-
 // The byte at a place, 0 past the end.
 fn byte_at(s: &[u8], at: usize) -> u8 {
     if at < s.len() { s[at] } else { 0 }
@@ -43,7 +37,7 @@ fn entry_size(list: &[u8], from: usize) -> usize
     requires { from < 256 }
     ensures { result < 261 }
 {
-    let n = wide(byte_at(list, from)) + 2;
+    let n = usize::from(byte_at(list, from)) + 2;
     n + article_size(list, from + n)
 }
 
@@ -88,13 +82,13 @@ fn shuffle(starts: &mut [u8], n: usize, k: usize)
 
 // The list in order k.
 pub fn arrange(list: &[u8], k: usize, to: &mut [u8]) {
-    let n = wide(byte_at(list, 0));
+    let n = usize::from(byte_at(list, 0));
     let mut starts = starts(list);
     shuffle(&mut starts, n, k);
     put(to, 0, byte_at(list, 0));
     let mut at: usize = 1;
     for i in 0..n {
-        at = copy_entry(list, wide(byte_at(&starts, i)), to, at % 256);
+        at = copy_entry(list, usize::from(byte_at(&starts, i)), to, at % 256);
     }
 }
 
@@ -133,7 +127,7 @@ fn copy_left(left: u8, list: &[u8], from: usize, to: &mut [u8], at: usize) -> us
 pub fn copy_split(list: &[u8], which: usize, base: usize, k: usize, to: &mut [u8]) -> usize
     requires { 0 < base }
 {
-    let n = wide(byte_at(list, 0));
+    let n = usize::from(byte_at(list, 0));
     put(to, 0, count_left(which, base, k, n));
     let mut rest = k;
     let mut from: usize = 1;

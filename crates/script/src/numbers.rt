@@ -56,7 +56,7 @@ fn store(to: &mut [u32], start: usize, times: u32, value: u32) -> usize
     requires { start ≤ length to.old }
     ensures { result ≤ length to.new }
 {
-    let end = start + wide(times).min(to.len() - start);
+    let end = start + (times as usize).min(to.len() - start);
     to[start..end].fill(value);
     end
 }
@@ -92,17 +92,11 @@ pub fn read(text: &[u8], hex: bool, to: &mut [u32]) -> usize
     put(to, n, p, hex)
 }
 
-fn wide(v: u32) -> usize
-    ensures { result < 4294967296 }
-{
-    v as usize
-}
-
 // Number k of a line, 0 where there is none.
 pub fn size(args: &[u32], k: usize) -> usize
     ensures { result < 4294967296 }
 {
-    if k < args.len() { wide(args[k]) } else { 0 }
+    if k < args.len() { args[k] as usize } else { 0 }
 }
 
 pub fn cell(args: &[u32], k: usize) -> u16 {

@@ -70,20 +70,11 @@ pub fn words(s: &[u32]) {
     }
 }
 
-fn widen_cells(s: &[u16], to: &mut [u32]) -> usize
+fn widen<V: Copy + Into<u32>>(s: &[V], to: &mut [u32]) -> usize
     ensures { result ≤ length to.new }
 {
     for (wide, v) in to.iter_mut().zip(s) {
-        *wide = u32::from(*v);
-    }
-    s.len().min(to.len())
-}
-
-fn widen_bytes(s: &[u8], to: &mut [u32]) -> usize
-    ensures { result ≤ length to.new }
-{
-    for (wide, v) in to.iter_mut().zip(s) {
-        *wide = u32::from(*v);
+        *wide = (*v).into();
     }
     s.len().min(to.len())
 }
@@ -94,21 +85,15 @@ fn blank() -> [u32; MOST]
     [0; MOST]
 }
 
-pub fn cells(s: &[u16]) {
+pub fn numbers<V: Copy + Into<u32>>(s: &[V]) {
     let mut wide = blank();
-    let n = widen_cells(s, &mut wide);
-    words(&wide[..n]);
-}
-
-pub fn bytes(s: &[u8]) {
-    let mut wide = blank();
-    let n = widen_bytes(s, &mut wide);
+    let n = widen(s, &mut wide);
     words(&wide[..n]);
 }
 
 // The sum alone.
 pub fn sum_of(s: &[u8]) {
     let mut wide = blank();
-    let n = widen_bytes(s, &mut wide);
+    let n = widen(s, &mut wide);
     io::print_decimal(1, sum(&wide[..n]));
 }

@@ -29,7 +29,7 @@ fn read_to(bytes: &[u8], cells: &mut [u16]) {
     let mut answer = [0u64; 8];
     purlquartz_read(bytes, cells, &mut answer);
     say::answer(b"read", &answer);
-    say::cells(cells);
+    say::numbers(cells);
 }
 
 fn read(args: &[u32], bytes: &[u8]) {
@@ -48,7 +48,7 @@ fn write_to(cells: &[u16], bytes: &mut [u8]) {
     let mut answer = [0u64; 8];
     purlquartz_write(cells, bytes, &mut answer);
     say::answer(b"write", &answer);
-    say::bytes(bytes);
+    say::numbers(bytes);
 }
 
 fn write(args: &[u32], cells: &[u16]) {
@@ -61,7 +61,7 @@ fn to_form_1_in(cells: &[u16], lent: &mut [u16]) {
     let mut answer = [0u64; 8];
     purlquartz_to_form_1(cells, lent, &mut answer);
     say::answer(b"to_form_1", &answer);
-    say::cells(lent);
+    say::numbers(lent);
 }
 
 fn to_form_1(args: &[u32], cells: &[u16]) {
@@ -74,7 +74,7 @@ fn to_form_2_in(cells: &[u16], lent: &mut [u16]) {
     let mut answer = [0u64; 8];
     purlquartz_to_form_2(cells, lent, &mut answer);
     say::answer(b"to_form_2", &answer);
-    say::cells(lent);
+    say::numbers(lent);
 }
 
 fn to_form_2(args: &[u32], cells: &[u16]) {
@@ -87,7 +87,7 @@ fn run_in(cells: &[u16], sentence: &[u8], lookahead: u16, stack: &mut [u16]) {
     let mut answer = [0u64; 8];
     purlquartz_run(cells, sentence, lookahead, stack, &mut answer);
     say::answer(b"run", &answer);
-    say::cells(stack);
+    say::numbers(stack);
 }
 
 fn run(args: &[u32], cells: &[u16], sentence: &[u8]) {
@@ -117,8 +117,8 @@ fn find_in(word: &[u8], cells: &[u16], s: u16, z: u16, work: &mut [u16], buffer:
     let mut answer = [0u64; 8];
     ask(word, cells, s, z, work, buffer, &mut answer);
     say::answer(word, &answer);
-    say::cells(work);
-    say::bytes(buffer);
+    say::numbers(work);
+    say::numbers(buffer);
 }
 
 fn find(word: &[u8], args: &[u32], cells: &[u16]) {
@@ -135,8 +135,8 @@ fn map_in(cells: &[u16], work: &mut [u16], map: &mut [u16]) {
     let mut answer = [0u64; 8];
     purlquartz_map(cells, work, map, &mut answer);
     say::answer(b"map", &answer);
-    say::cells(work);
-    say::cells(map);
+    say::numbers(work);
+    say::numbers(map);
 }
 
 fn map(args: &[u32], cells: &[u16]) {
@@ -151,7 +151,7 @@ fn sets_in(cells: &[u16], work: &mut [u16], masks: &mut [u32], sizes: &mut [u32]
     let mut answer = [0u64; 8];
     purlquartz_sets(cells, work, masks, sizes, &mut answer);
     say::answer(b"sets", &answer);
-    say::cells(work);
+    say::numbers(work);
     say::words(masks);
     say::words(sizes);
 }
@@ -186,9 +186,9 @@ fn sentences_in(word: &[u8], cells: &[u16], work: &mut [u16], map: &mut [u16], b
     let mut answer = [0u64; 8];
     ask_all(word, cells, work, map, bytes, &mut answer);
     say::answer(word, &answer);
-    say::cells(work);
-    say::cells(map);
-    say::bytes(bytes);
+    say::numbers(work);
+    say::numbers(map);
+    say::numbers(bytes);
 }
 
 fn sentences(word: &[u8], args: &[u32], cells: &[u16]) {

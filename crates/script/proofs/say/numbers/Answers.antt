@@ -1,7 +1,7 @@
--- `script::say::cells` is safe. Assumes nothing.
+-- `script::say::numbers` is safe. Assumes nothing.
 use lib.ListN.{length-take}
 use native.Mathlib.Omega.{arith}
-use Rattle.script.proofs.say.cells.Goals as goal
+use Rattle.script.proofs.say.numbers.Goals as goal
 
 pub slice_bounds-words-end : goal.slice_bounds-words-end
 slice_bounds-words-end c = simp length-take (omega arith)

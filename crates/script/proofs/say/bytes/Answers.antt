@@ -1,7 +1,0 @@
--- `script::say::bytes` is safe. Assumes nothing.
-use lib.ListN.{length-take}
-use native.Mathlib.Omega.{arith}
-use Rattle.script.proofs.say.bytes.Goals as goal
-
-pub slice_bounds-words-end : goal.slice_bounds-words-end
-slice_bounds-words-end c = simp length-take (omega arith)
