@@ -1,5 +1,5 @@
 -- Laws of joining: what the joined list is, which lists it gives back, and on what it does not depend. Assumes nothing.
-use Rattle.std.specs.Prelude.{Result, Ok, true, ◌||◌, ◌≡◌, ℕ, ◌≤◌, ◌<◌, length, take}
+use Rattle.std.specs.Prelude.{Result, Ok, Err, true, ◌||◌, ◌≡◌, ℕ, ◌≤◌, ◌<◌, length, take}
 use mathlib.Core.List.{List, [], ◌∷◌}
 use Rattle.std.proofs.Math.Path.{refl, sym}
 use Rattle.std.proofs.Common.{◌∙◌, ap, arith}
@@ -21,7 +21,7 @@ use Rattle.lists.specs.declared.Entry.{Entry}
 use Rattle.items.specs.Items.{Item, items, list_bytes}
 use Rattle.items.specs.WrittenLaws.{items-few}
 use Rattle.course.specs.Course.{Course, fault, clean, in_state, course}
-use Rattle.sorting.specs.FittedLaws.{Fits, fits-front, fits_told, told-fits}
+use Rattle.sorting.specs.FittedLaws.{Fits, fits-front, fits_told, told-fits-ok}
 use Rattle.sorting.proofs.OrderLaws.{ordered-free}
 use Rattle.sorting.specs.Sorting.{by_state}
 use Rattle.sorting.proofs.SortingLaws.{list-of, read-so, list-valid, list-below, ordered-bytes}
@@ -53,7 +53,7 @@ joined_by_lem {B} {xs} {ys} {lent} {out} {n} e = go (course true B 0 [] xs) (cou
       seconds = seconds;
       first-faultless = f;
       second-faultless = g;
-      fits = told-fits Refused (joined_bytes B xs ys) lent k;
+      fits = told-fits-ok Refused (joined_bytes B xs ys) lent k;
     }
 
 -- ---- the list that has the entries of two lists joined
@@ -89,7 +89,7 @@ module _ (d : Sizes) (cells : List ℕ) (h : Accepted d cells) where
         → course true (tables_of cells) 0 [] (items second fs) ≡ clean seconds → joined_bytes (tables_of cells) (items first es) (items second fs) ≡ r
         → length r ≤ length lent → joins cells first second lent ≡ (Ok (length r), over r lent)
     unfolding joins
-    joined-told r lent c f e room = rw (h, read-so d cells h first l, read-so d cells h second m, c, f, e) (fits_told Refused r lent refl room)
+    joined-told r lent c f e room = rw (h, read-so d cells h first l, read-so d cells h second m, c, f, e) (fits_told Ok (λ r. Err (Refused r)) r lent refl room)
 
     join-list : {firsts seconds : List ℕ} → course true (tables_of cells) 0 [] (items first es) ≡ clean firsts
         → course true (tables_of cells) 0 [] (items second fs) ≡ clean seconds

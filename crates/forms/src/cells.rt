@@ -7,5 +7,7 @@ pub fn copy(from: &[u16], start: usize, n: usize, to: &mut [u16], at: usize)
     requires { (start + n ≤ length from.now) × (at + n ≤ length to.old) }
     ensures { to.new ≡ paste to.old at (drop start from.now) n }
 {
-    to[at..at + n].copy_from_slice(&from[start..start + n]);
+    for i in 0..n {
+        to[at + i] = from[start + i];
+    }
 }

@@ -92,19 +92,19 @@ module _ {t : ℕ} (B : Tables) (first places second others : List ℕ) (xs ys :
 
 -- ---- a list that is put: its count, then its entries, in a room of which so much is left by these
 module _ (count pieces lent : List ℕ) where
-  pub pieces-short : length lent < length pieces → (Err (Refused (refused_at Cause.Output 0)), lent) ≡ fitted Refused (count ++ pieces) lent
-  pieces-short h = fitted_short Refused (count ++ pieces) lent (omega (arith, length-append count pieces))
+  pub pieces-short : length lent < length pieces → (Err (Refused (refused_at Cause.Output 0)), lent) ≡ fitted Ok (λ r. Err (Refused r)) (count ++ pieces) lent
+  pieces-short h = fitted_short Ok (λ r. Err (Refused r)) (count ++ pieces) lent (omega (arith, length-append count pieces))
 
   module _ (left : ℕ) (e : left + length pieces ≡ length lent) where
-    pub count-short : left < length count → (Err (Refused (refused_at Cause.Output 0)), lent) ≡ fitted Refused (count ++ pieces) lent
-    count-short h = fitted_short Refused (count ++ pieces) lent (omega (arith, length-append count pieces))
+    pub count-short : left < length count → (Err (Refused (refused_at Cause.Output 0)), lent) ≡ fitted Ok (λ r. Err (Refused r)) (count ++ pieces) lent
+    count-short h = fitted_short Ok (λ r. Err (Refused r)) (count ++ pieces) lent (omega (arith, length-append count pieces))
 
     pub list_put : (start end : ℕ) (between out : List ℕ) → length count ≤ left → (start ≡ 0 + length count) × (between ≡ sets lent 0 count)
-        → (end ≡ start + length pieces) × (out ≡ sets between start pieces) → (Ok end, out) ≡ fitted Refused (count ++ pieces) lent
+        → (end ≡ start + length pieces) × (out ≡ sets between start pieces) → (Ok end, out) ≡ fitted Ok (λ r. Err (Refused r)) (count ++ pieces) lent
     list_put start end between out h (f, g) (i, j) =
         let both = length-append count pieces in
         let room : length (count ++ pieces) ≤ length lent = omega (arith, both) in
-        fitted-put Refused (count ++ pieces) lent (omega (arith, both)) (omega (arith, both)) (put_both count pieces lent between out start (omega arith) room g j)
+        fitted-put Ok (λ r. Err (Refused r)) (count ++ pieces) lent (omega (arith, both)) (omega (arith, both)) (put_both count pieces lent between out start (omega arith) room g j)
 
 module _ (t : ℕ) (B : Tables) {first second : List ℕ} {rest other : Rest} (lent : List ℕ) (a : BothAccepted t first rest second other) where
   pub first-fault : (j : Judgement) → EntriesPassed true B t first rest.at rest.left [] (Err j)
@@ -126,7 +126,7 @@ pub accepted-joined : {d : Sizes} {cells first second : List ℕ} {rest other : 
     → BothAccepted d.t first rest second other
     → EntriesPassed true (tables_of cells) d.t first rest.at rest.left places (Ok tt)
     → EntriesPassed true (tables_of cells) d.t second other.at other.left others (Ok tt)
-    → (lent : List ℕ) (o : Result ℕ Unjoined × List ℕ) → o ≡ fitted Refused (written (count_to places others d.s) ++ pieces_to first places second others d.s) lent
+    → (lent : List ℕ) (o : Result ℕ Unjoined × List ℕ) → o ≡ fitted Ok (λ r. Err (Refused r)) (written (count_to places others d.s) ++ pieces_to first places second others d.s) lent
     → o ≡ joined_in (tables_of cells) first (list_of d.t first) second (list_of d.t second) lent
 accepted-joined {d} {cells} {first} {second} {places} {others} h b c a e f lent o g =
     let B : Tables = tables_of cells in

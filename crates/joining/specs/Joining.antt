@@ -30,7 +30,7 @@ joined_bytes B xs ys = list_bytes (joined B xs ys B.states 0)
 abbrev pub joined_by : List ℕ → Course → Course → List ℕ → Result ℕ Unjoined × List ℕ
 joined_by out (fault j) c lent = (Err (Unjoined.Fault Which.First j), lent)
 joined_by out (clean states) (fault j) lent = (Err (Unjoined.Fault Which.Second j), lent)
-joined_by out (clean states) (clean others) lent = fitted Unjoined.Refused out lent
+joined_by out (clean states) (clean others) lent = fitted Ok (λ r. Err (Unjoined.Refused r)) out lent
 
 -- the refusals of the lists: 'Of several inputs of one kind the first lent is checked first, and every refusal comes before any other answer'
 abbrev pub joined_in : Tables → List ℕ → Listed → List ℕ → Listed → List ℕ → Result ℕ Unjoined × List ℕ

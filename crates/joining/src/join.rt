@@ -1,5 +1,5 @@
 // Two lists without a fault, written as one.
-ghost use Rattle.std.specs.Prelude.{true, Ok, [], ◌++◌, ◌≡◌, ◌≤◌, length};
+ghost use Rattle.std.specs.Prelude.{true, Ok, Err, [], ◌++◌, ◌≡◌, ◌≤◌, length};
 ghost use Rattle.number.specs.Number.{written};
 ghost use Rattle.book.specs.Tables.{tables_of};
 ghost use Rattle.book.specs.TablesLaws.{Accepted, Holds};
@@ -31,7 +31,7 @@ fn put_list(
     out: &mut [u8],
 ) -> Result<usize, Unjoined>
     requires { states ≤ 128 }
-    ensures { (result, out.new) ≡ fitted Refused (written (count_to places.now others.now states) ++ pieces_to first.now places.now second.now others.now states) out.old }
+    ensures { (result, out.new) ≡ fitted Ok (λ r. Err (Refused r)) (written (count_to places.now others.now states) ++ pieces_to first.now places.now second.now others.now states) out.old }
 {
     let Some((left, count)) = measure(first, places, second, others, states, out.len()) else {
         return Err(Unjoined::Refused(Refusal::at(Cause::Output, 0)));

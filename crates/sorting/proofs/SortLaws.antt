@@ -41,14 +41,14 @@ module _ (bytes more lent : List ℕ) (first : ℕ) (whole : first + length more
   sorted-length = rw (length-append, length-take-le first bytes (omega arith)) whole
 
   pub list-short : length lent < length bytes → (Err (Refused (refused_at Cause.Output 0)), lent) ≡ sorted_by (take first bytes ++ more) (clean []) lent
-  list-short h = fitted_short Refused (take first bytes ++ more) lent (omega (arith, sorted-length))
+  list-short h = fitted_short Ok (λ r. Err (Refused r)) (take first bytes ++ more) lent (omega (arith, sorted-length))
 
   pub list_put : (front out : List ℕ) → length bytes ≤ length lent → front ≡ sets lent 0 (take first bytes) → out ≡ sets front first more
       → (Ok (length bytes), out) ≡ sorted_by (take first bytes ++ more) (clean []) lent
   list_put front out h e f =
       let room : length (take first bytes ++ more) ≤ length lent = omega (arith, sorted-length) in
       let before : first ≡ length (take first bytes) = rw (length-take-le first bytes (omega arith)) in
-      fitted-put Refused (take first bytes ++ more) lent sorted-length h (put_both (take first bytes) more lent front out first before room e f)
+      fitted-put Ok (λ r. Err (Refused r)) (take first bytes ++ more) lent sorted-length h (put_both (take first bytes) more lent front out first before room e f)
 
 -- ---- a list that was accepted
 module _ (t : ℕ) {bytes : List ℕ} {rest : Rest} (s : ListAccepted bytes (list_of t bytes) rest) where

@@ -1,5 +1,5 @@
 -- Laws of sorting: what the sorted list is, and on what it does not depend. Assumes nothing.
-use Rattle.std.specs.Prelude.{Result, Ok, true, false, List, [], ◌≡◌, refl, ℕ, ◌≤◌, length, take}
+use Rattle.std.specs.Prelude.{Result, Ok, Err, true, false, List, [], ◌≡◌, refl, ℕ, ◌≤◌, length, take}
 use Rattle.std.proofs.Common.{sym, ◌∙◌, ap, arith}
 use Rattle.std.proofs.lemmas.List.{length-map}
 use Rattle.number.specs.Lent.{over}
@@ -21,7 +21,7 @@ use Rattle.items.specs.RearrangedLaws.{rearranged-length, rearranged-valid}
 use Rattle.items.specs.Valid.{AllValid}
 use Rattle.items.specs.WrittenLaws.{items-few, items-valid, list_written, written_listed}
 use Rattle.course.specs.Course.{Course, fault, clean, course}
-use Rattle.sorting.specs.FittedLaws.{Fits, fits-front, fits_told, told-fits}
+use Rattle.sorting.specs.FittedLaws.{Fits, fits-front, fits_told, told-fits-ok}
 use Rattle.sorting.specs.OrderLaws.{AllBelow}
 use Rattle.sorting.proofs.OrderLaws.{clean-below, by-state-rearranged, sorted-clean, ordered-free, ordered-kept, rearranged-clean, rearranged-sorted}
 use Rattle.sorting.specs.Sorting.{by_state, sorted_bytes, sorted_by, sorts}
@@ -40,7 +40,7 @@ sorted-by {B} {xs} {lent} {out} {n} e = go (course false B 0 [] xs) refl e
   where
     go : (c : Course) → course false B 0 [] xs ≡ c → sorted_by (sorted_bytes B xs) c lent ≡ (Ok n, out) → IsSorted B xs lent n out
     go (fault j) f g = absurd (clash (cc (ap (λ (p : Result ℕ Unsorted × List ℕ). p.0) g)))
-    go (clean states) f g = record { states = states; faultless = f; fits = told-fits Refused (sorted_bytes B xs) lent g }
+    go (clean states) f g = record { states = states; faultless = f; fits = told-fits-ok Refused (sorted_bytes B xs) lent g }
 
 module _ (cells bytes : List ℕ) {es : List Entry} {end : ℕ} (l : list_in cells bytes ≡ entries es end) where
   told-sorted : {lent out : List ℕ} {n : ℕ} → sorts cells bytes lent ≡ (Ok n, out) → IsSorted (tables_of cells) (items bytes es) lent n out
@@ -50,7 +50,7 @@ module _ (cells bytes : List ℕ) {es : List Entry} {end : ℕ} (l : list_in cel
   sorted-told : {states : List ℕ} {n : ℕ} (r lent : List ℕ) → course false (tables_of cells) 0 [] (items bytes es) ≡ clean states
       → sorted_bytes (tables_of cells) (items bytes es) ≡ r → length r ≡ n → n ≤ length lent → sorts cells bytes lent ≡ (Ok n, over r lent)
   unfolding sorts
-  sorted-told r lent c e f room = rw (l, c, e) (fits_told Refused r lent f room)
+  sorted-told r lent c e f room = rw (l, c, e) (fits_told Ok (λ r. Err (Refused r)) r lent f room)
 
 -- ---- two lists with the same entries
 module _ (cells first second : List ℕ) {es fs : List Entry} {end last : ℕ} (l : list_in cells first ≡ entries es end) (m : list_in cells second ≡ entries fs last)

@@ -24,13 +24,13 @@ sorted_bytes B xs = list_bytes (by_state B xs B.states 0)
 
 -- a result that stands at the front of the lent bytes and is told by its length; '12 an output too short', and a refusal 'leaves all lent memory
 -- as it found it'
-abbrev pub fitted : {E : Type 0} → (Refusal → E) → List ℕ → List ℕ → Result ℕ E × List ℕ
-fitted refuse out lent = cond (leb (length out) (length lent)) (Ok (length out), over out lent) (Err (refuse (refused_at Cause.Output 0)), lent)
+abbrev pub fitted : {Answer : Type 0} → (ℕ → Answer) → (Refusal → Answer) → List ℕ → List ℕ → Answer × List ℕ
+fitted count refuse out lent = cond (leb (length out) (length lent)) (count (length out), over out lent) (refuse (refused_at Cause.Output 0), lent)
 
 -- 'A converter sorts any list with no wrong or repeated entry and else gives the old judgement', that in which order does not count
 abbrev pub sorted_by : List ℕ → Course → List ℕ → Result ℕ Unsorted × List ℕ
 sorted_by out (fault j) lent = (Err (Unsorted.Fault j), lent)
-sorted_by out (clean states) lent = fitted Unsorted.Refused out lent
+sorted_by out (clean states) lent = fitted Ok (λ r. Err (Unsorted.Refused r)) out lent
 
 -- the refusals of book and list come first
 abbrev pub sorted_in : Tables → List ℕ → Listed → List ℕ → Result ℕ Unsorted × List ℕ

@@ -12,7 +12,9 @@ pub fn copy_bytes(from: &[u8], start: usize, n: usize, to: &mut [u8], at: usize)
     requires { (start + n ≤ length from.now) × (at + n ≤ length to.old) }
     ensures { to.new ≡ sets to.old at (part from.now start n) }
 {
-    to[at..at + n].copy_from_slice(&from[start..start + n]);
+    for i in 0..n {
+        to[at + i] = from[start + i];
+    }
 }
 
 // The entry at a place of a list, where 0 is none, to an offset; answers the offset after it.

@@ -1,16 +1,11 @@
--- `sorting::putting::copy_bytes` meets its contract: the part is written over one as long. Assumes nothing.
-use mathlib.Core.Path.{◌≡◌}
-use native.Mathlib.Nat.{add-sub_cancel_left}
+-- `sorting::putting::copy_bytes` meets its contract: byte by byte. Assumes nothing.
 use native.Mathlib.Omega.{arith}
-use lib.ListN.{length, drop, length-drop}
-use lib.Seq.{length-take-le}
-use Rattle.lists.specs.Entry.{part}
-use Rattle.sorting.specs.PutLaws.{put-part}
+use lib.ListN.{length-set}
+use Rattle.sorting.specs.PutLaws.{put_byte}
 use Rattle.sorting.proofs.putting.copy_bytes.Goals as goal
 
-pub returns : goal.returns
-returns c =
+pub loop-i-preserved : goal.loop-i-preserved
+loop-i-preserved c =
     let a = c.args in
-    let same : c.copy_from_slice.new.self ≡ part a.from.now a.start a.n = rw add-sub_cancel_left at c.copy_from_slice.ensures.after in
-    let long : length (part a.from.now a.start a.n) ≡ a.n = length-take-le a.n (drop a.start a.from.now) (rw length-drop (omega arith)) in
-    rw (add-sub_cancel_left, same) (put-part (part a.from.now a.start a.n) a.to.now a.at a.n long (omega arith))
+    let inv = c.loop-i.invariant in
+    (rw inv.0 (put_byte a.from.now a.to.now a.start a.at c.loop-i.i (omega arith)), simp length-set inv.1)
